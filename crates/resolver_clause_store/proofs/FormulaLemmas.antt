@@ -1,5 +1,5 @@
 -- Clauses of a table, and clauses under values.
-use Rattle.std.proofs.Common.{◌≡◌, ℕ, zero, suc, ◌<◌, ◌≤◌, List, [], ◌∷◌, ◌++◌, length, get_or, Bool, true, false, arith, refl, ◌∙◌}
+use Rattle.std.proofs.Common.{◌≡◌, ℕ, zero, suc, ◌<◌, ◌≤◌, List, [], ◌∷◌, ◌++◌, length, get_or, Bool, true, false, arith, refl}
 use Rattle.std.specs.Prelude.{Some, not, slice_get}
 use Rattle.std.specs.Bool.{beq}
 use Rattle.std.specs.List.{All, AllByRecursion, Contains}

@@ -26,5 +26,6 @@ pub mod GrowLemmas
 pub mod KeptLemmas
 pub mod SettledLemmas
 pub mod WatchListLemmas
+pub mod ParkedLemmas
 pub mod QueueLemmas
 pub mod ScoreLemmas

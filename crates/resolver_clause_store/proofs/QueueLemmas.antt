@@ -19,10 +19,12 @@ use Rattle.resolver_clause_store.specs.Formula.{clause_at}
 use Rattle.resolver_clause_store.specs.Outcomes.{IsMet}
 use Rattle.resolver_clause_store.specs.TrailView.{KeepsPlaces, length_of, literal_value, slot_of, variable_at}
 use Rattle.resolver_clause_store.proofs.KeptLemmas.{slot_at}
+use Rattle.resolver_clause_store.proofs.ListLemmas.{Contains-here, Contains-there}
 use Rattle.resolver_clause_store.proofs.TrailLemmas.{value-true}
-use Rattle.resolver_clause_store.specs.declared.lists.Lists.{Lists}
+use Rattle.resolver_clause_store.specs.declared.parked.ParkedLists.{ParkedLists}
+use Rattle.resolver_clause_store.specs.Parked.{list_of}
 use Rattle.resolver_clause_store.specs.declared.queue.DecideQueue.{DecideQueue}
-use Rattle.resolver_clause_store.specs.Queues.{IsFollowed, IsHeld, IsMetBy, IsQueued, IsInactive, list_of}
+use Rattle.resolver_clause_store.specs.Queues.{IsFollowed, IsHeld, IsMetBy, IsQueued, IsInactive}
 
 -- a slot at a place that stays was there before
 pub slot-back : (old new : Trail) (count variable : ℕ) (slot : Slot) → KeepsPlaces old new count → slot_of new variable ≡ Some slot → slot.place < count →
@@ -35,11 +37,11 @@ slot-back old new count variable slot keeps at below =
     was ∙ sym here ∙ at
 
 -- a requirement in a list that stays
-parked-same : (old new : Lists) (variable index : ℕ) → list_of new variable ≡ list_of old variable → Contains (list_of old variable) index →
+parked-same : (old new : ParkedLists) (variable index : ℕ) → list_of new variable ≡ list_of old variable → Contains (list_of old variable) index →
     Contains (list_of new variable) index
 parked-same old new variable index same inside = let Inside : List ℕ → Type 0 = λ list. Contains list index in subst Inside (sym same) inside
 
-inactive-cut : (inactive : Lists) (old new : Trail) (kept left : ℕ) (clause : List Literal) (index : ℕ) → left ≤ kept → KeepsPlaces old new left →
+inactive-cut : (inactive : ParkedLists) (old new : Trail) (kept left : ℕ) (clause : List Literal) (index : ℕ) → left ≤ kept → KeepsPlaces old new left →
     IsInactive inactive old kept clause index → IsInactive inactive new left clause index
 inactive-cut inactive old new kept left clause index less keeps w = record {
   variable = w.variable;
@@ -52,7 +54,7 @@ inactive-cut inactive old new kept left clause index less keeps w = record {
       (cases_lt slot.place left);
 }
 
-met-cut : (met : Lists) (followed : List ℕ) (old new : Trail) (kept left : ℕ) (clause : List Literal) (index : ℕ) → left ≤ kept → kept ≤ length_of old →
+met-cut : (met : ParkedLists) (followed : List ℕ) (old new : Trail) (kept left : ℕ) (clause : List Literal) (index : ℕ) → left ≤ kept → kept ≤ length_of old →
     ((place : ℕ) → place < kept → slice_index followed place ≡ variable_at old place) → KeepsPlaces old new left → IsMetBy met old followed kept clause index →
     IsMetBy met new followed left clause index
 met-cut met followed old new kept left clause index less reached same keeps w = record {
@@ -70,8 +72,8 @@ met-cut met followed old new kept left clause index less reached same keeps w = 
       ap (option_map (λ (slot : Slot). beq slot.value true)) (now ∙ sym was) ∙ w.true_there (omega (arith, below, less));
 }
 
-held-cut : (active : List ℕ) (inactive met : Lists) (followed : List ℕ) (old new : Trail) (kept left : ℕ) (clause : List Literal) (index : ℕ) → left ≤ kept →
-    kept ≤ length_of old → ((place : ℕ) → place < kept → slice_index followed place ≡ variable_at old place) → KeepsPlaces old new left →
+held-cut : (active : List ℕ) (inactive met : ParkedLists) (followed : List ℕ) (old new : Trail) (kept left : ℕ) (clause : List Literal) (index : ℕ) →
+    left ≤ kept → kept ≤ length_of old → ((place : ℕ) → place < kept → slice_index followed place ≡ variable_at old place) → KeepsPlaces old new left →
     IsHeld active inactive met followed kept old clause index → IsHeld active inactive met followed left new clause index
 held-cut active inactive met followed old new kept left clause index less reached same keeps held = ⊎_elim
     (λ (here : Contains active index). inl here)
@@ -128,7 +130,7 @@ queued-grown it trail table more requirements inside same queued = record {
 }
 
 -- more active requirements
-held-more : (active more : List ℕ) (inactive met : Lists) (followed : List ℕ) (kept : ℕ) (trail : Trail) (clause : List Literal) (index : ℕ) →
+held-more : (active more : List ℕ) (inactive met : ParkedLists) (followed : List ℕ) (kept : ℕ) (trail : Trail) (clause : List Literal) (index : ℕ) →
     IsHeld active inactive met followed kept trail clause index → IsHeld (active ++ more) inactive met followed kept trail clause index
 held-more active more inactive met followed kept trail clause index held =
     ⊎_elim (λ (here : Contains active index). inl (Contains-append_left active more index here)) (λ rest. inr rest) held
@@ -259,7 +261,8 @@ queued-follow old new trail table requirements variable all inside next followed
           (λ (w : IsMetBy old.met trail old.followed.items old.kept (clause_at table (get_or requirements index d).number) index).
           let before : w.place < old.kept = omega (arith, w.within, all) in
           let further : w.place < length new.followed.items = omega (arith, w.within, longer) in
-          let Met : Lists → Type 0 = λ parked. IsMetBy parked trail new.followed.items new.kept (clause_at table (get_or requirements index d).number) index in
+          let Met : ParkedLists → Type 0 =
+          λ parked. IsMetBy parked trail new.followed.items new.kept (clause_at table (get_or requirements index d).number) index in
           inr (inr (subst Met (sym met) (record {
             variable = w.variable;
             parked = w.parked;
@@ -328,19 +331,19 @@ queued-settled old new trail table requirements settled followed kept active ina
 }
 
 -- an element was added to a list, and the others stay
-pub parked-more : (old new : Lists) (variable last : ℕ) → list_of new variable ≡ list_of old variable ++ last ∷ [] →
+pub parked-more : (old new : ParkedLists) (variable last : ℕ) → list_of new variable ≡ last ∷ list_of old variable →
     ((v : ℕ) → v ≢ variable → list_of new v ≡ list_of old v) → (v index : ℕ) → Contains (list_of old v) index → Contains (list_of new v) index
 parked-more old new variable last here others v index inside = ⊎_elim
     (λ (is : v ≡ variable).
     let Inside : List ℕ → Type 0 = λ list. Contains list index in
     subst Inside (sym (ap (λ w. list_of new w) is ∙ here))
-    (Contains-append_left (list_of old variable) (last ∷ []) index (subst Inside (ap (λ w. list_of old w) is) inside)))
+    (Contains-there last (list_of old variable) index (subst Inside (ap (λ w. list_of old w) is) inside)))
     (λ (differs : v ≢ variable). parked-same old new v index (others v differs) inside)
     (cases_eq v variable)
 
-pub parked-last : (old new : Lists) (variable last : ℕ) → list_of new variable ≡ list_of old variable ++ last ∷ [] → Contains (list_of new variable) last
+pub parked-last : (old new : ParkedLists) (variable last : ℕ) → list_of new variable ≡ last ∷ list_of old variable → Contains (list_of new variable) last
 parked-last old new variable last here = let Inside : List ℕ → Type 0 = λ list. Contains list last in
-    subst Inside (sym here) (Contains-push (list_of old variable) last)
+    subst Inside (sym here) (Contains-here last (list_of old variable))
 
 -- a variable that is not true
 pub not-true : (trail : Trail) (variable kept : ℕ) → (literal_value trail (record { variable = variable; positive = false }) ≢ Some false) → (slot : Slot) →
@@ -348,7 +351,7 @@ pub not-true : (trail : Trail) (variable kept : ℕ) → (literal_value trail (r
 not-true trail variable kept other slot at is_so = absurd (other (ap (option_map (λ (s : Slot). beq s.value false)) at ∙ ap (λ b. Some (beq b false)) is_so))
 
 -- a requirement is met by a candidate whose place was followed
-met-here : (met : Lists) (trail : Trail) (followed : List ℕ) (kept : ℕ) (clause : List Literal) (index variable : ℕ) →
+met-here : (met : ParkedLists) (trail : Trail) (followed : List ℕ) (kept : ℕ) (clause : List Literal) (index variable : ℕ) →
     ((place : ℕ) → place < kept → slice_index followed place ≡ variable_at trail place) → kept ≡ length_of trail → length followed ≡ kept →
     Contains (list_of met variable) index → Contains clause (record { variable = variable; positive = true }) →
     literal_value trail (record { variable = variable; positive = true }) ≡ Some true → IsMetBy met trail followed kept clause index
@@ -381,9 +384,9 @@ left-read xs new place x taken inside read is same y there = ⊎_elim
     (left-or xs place taken inside is y there)
 
 -- a requirement that became inactive
-pub held-inactive : (active : List ℕ) (old inactive met : Lists) (followed : List ℕ) (kept : ℕ) (trail : Trail) (table : List (List Literal))
+pub held-inactive : (active : List ℕ) (old inactive met : ParkedLists) (followed : List ℕ) (kept : ℕ) (trail : Trail) (table : List (List Literal))
     (requirements : List StoredRequirement) (r : StoredRequirement) (literals : List Literal) (index variable : ℕ) →
-    list_of inactive variable ≡ list_of old variable ++ index ∷ [] → r ≡ get_or requirements index r → literals ≡ clause_at table r.number →
+    list_of inactive variable ≡ index ∷ list_of old variable → r ≡ get_or requirements index r → literals ≡ clause_at table r.number →
     Contains literals (record { variable = variable; positive = false }) ×
     (literal_value trail (record { variable = variable; positive = false }) ≢ Some false) → (d : StoredRequirement) → index < length requirements →
     IsHeld active inactive met followed kept trail (clause_at table (get_or requirements index d).number) index
@@ -396,10 +399,10 @@ held-inactive active old inactive met followed kept trail table requirements r l
       not_true = not-true trail variable kept standing.1;
     }))
 
-pub held-by_candidate : (active : List ℕ) (inactive old met : Lists) (followed : List ℕ) (kept : ℕ) (trail : Trail) (table : List (List Literal))
+pub held-by_candidate : (active : List ℕ) (inactive old met : ParkedLists) (followed : List ℕ) (kept : ℕ) (trail : Trail) (table : List (List Literal))
     (requirements : List StoredRequirement) (r : StoredRequirement) (literals : List Literal) (index variable : ℕ) →
     ((place : ℕ) → place < kept → slice_index followed place ≡ variable_at trail place) → kept ≡ length_of trail → length followed ≡ kept →
-    list_of met variable ≡ list_of old variable ++ index ∷ [] → r ≡ get_or requirements index r → literals ≡ clause_at table r.number →
+    list_of met variable ≡ index ∷ list_of old variable → r ≡ get_or requirements index r → literals ≡ clause_at table r.number →
     Contains literals (record { variable = variable; positive = true }) × (literal_value trail (record { variable = variable; positive = true }) ≡ Some true) →
     (d : StoredRequirement) → index < length requirements →
     IsHeld active inactive met followed kept trail (clause_at table (get_or requirements index d).number) index
@@ -428,8 +431,8 @@ unmet-not trail clause variable (Some slot) at asks never =
     not-yes true never = absurd (never refl)
     not-yes false never = refl
 
-pub held-met : (active : List ℕ) (inactive met : Lists) (followed : List ℕ) (kept : ℕ) (trail : Trail) (clause : List Literal) (index : ℕ) → length active ≡ 0 →
-    kept ≡ length_of trail → length followed ≡ kept → IsHeld active inactive met followed kept trail clause index → IsMet trail clause
+pub held-met : (active : List ℕ) (inactive met : ParkedLists) (followed : List ℕ) (kept : ℕ) (trail : Trail) (clause : List Literal) (index : ℕ) →
+    length active ≡ 0 → kept ≡ length_of trail → length followed ≡ kept → IsHeld active inactive met followed kept trail clause index → IsMet trail clause
 held-met active inactive met followed kept trail clause index none all exact held = ⊎_elim
     (λ (here : Contains active index). absurd (omega (arith, here.1, none)))
     (λ rest. ⊎_elim

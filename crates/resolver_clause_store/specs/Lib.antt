@@ -26,7 +26,9 @@ pub mod WatchedPairs
 pub mod WatchesView
 pub mod UnionEnds
 pub mod Decisions
+pub mod NumberedLists
 pub mod Queues
+pub mod Parked
 pub mod Owners
 pub mod Scores
 pub mod Statements

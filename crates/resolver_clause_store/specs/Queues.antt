@@ -1,27 +1,18 @@
 -- The queue of requirements to decide.
-use Rattle.std.specs.Prelude.{◌≡◌, ℕ, ◌<◌, ◌≤◌, ◌⊎◌, true, false, Some, List, [], length, Vec, Contains, slice_get, slice_index, slice_index_or}
-use Rattle.std.specs.Option.{option_map_or}
-use Rattle.std.specs.declared.alloc.Global.{Global}
+use Rattle.std.specs.Prelude.{◌≡◌, ℕ, ◌<◌, ◌≤◌, ◌⊎◌, true, false, Some, List, length, Contains, slice_index, slice_index_or}
 use Rattle.resolver_clause_store.specs.declared.literals.Literal.{Literal}
 use Rattle.resolver_clause_store.specs.declared.clauses.StoredRequirement.{StoredRequirement}
 use Rattle.resolver_clause_store.specs.declared.trail.Slot.{Slot}
 use Rattle.resolver_clause_store.specs.declared.trail.Trail.{Trail}
 use Rattle.resolver_clause_store.specs.Formula.{clause_at}
 use Rattle.resolver_clause_store.specs.TrailView.{length_of, literal_value, slot_of, variable_at}
-use Rattle.resolver_clause_store.specs.declared.lists.Lists.{Lists}
+use Rattle.resolver_clause_store.specs.declared.parked.ParkedLists.{ParkedLists}
+use Rattle.resolver_clause_store.specs.Parked.{list_of}
 use Rattle.resolver_clause_store.specs.declared.queue.DecideQueue.{DecideQueue}
-
--- the list with this number, empty if there is none
-abbrev pub list_at : List (Vec ℕ Global) → ℕ → List ℕ
-list_at lists number = option_map_or (λ (list : Vec ℕ Global). list.items) (slice_get lists number) []
-
--- the list with this number
-abbrev pub list_of : Lists → ℕ → List ℕ
-list_of it number = list_at it.lists.items number
 
 -- The requirement with this index is put aside for a variable that its clause negates, and that is not true at an
 -- unchanged place.
-pub record IsInactive (inactive : Lists) (trail : Trail) (kept : ℕ) (clause : List Literal) (index : ℕ) : Type 0 where
+pub record IsInactive (inactive : ParkedLists) (trail : Trail) (kept : ℕ) (clause : List Literal) (index : ℕ) : Type 0 where
   pub variable : ℕ
   pub parked : Contains (list_of inactive variable) index
   pub asks : Contains clause (record { variable = variable; positive = false })
@@ -29,7 +20,7 @@ pub record IsInactive (inactive : Lists) (trail : Trail) (kept : ℕ) (clause : 
 
 -- The requirement with this index has a candidate that was true when its place was followed, and is still true if that
 -- place is unchanged.
-pub record IsMetBy (met : Lists) (trail : Trail) (followed : List ℕ) (kept : ℕ) (clause : List Literal) (index : ℕ) : Type 0 where
+pub record IsMetBy (met : ParkedLists) (trail : Trail) (followed : List ℕ) (kept : ℕ) (clause : List Literal) (index : ℕ) : Type 0 where
   pub variable : ℕ
   pub parked : Contains (list_of met variable) index
   pub has : Contains clause (record { variable = variable; positive = true })
@@ -39,7 +30,7 @@ pub record IsMetBy (met : Lists) (trail : Trail) (followed : List ℕ) (kept : �
   pub true_there : place < kept → literal_value trail (record { variable = variable; positive = true }) ≡ Some true
 
 -- The requirement with this index is active, inactive, or met.
-abbrev pub IsHeld : List ℕ → Lists → Lists → List ℕ → ℕ → Trail → List Literal → ℕ → Type 0
+abbrev pub IsHeld : List ℕ → ParkedLists → ParkedLists → List ℕ → ℕ → Trail → List Literal → ℕ → Type 0
 IsHeld active inactive met followed kept trail clause index =
     Contains active index ⊎ (IsInactive inactive trail kept clause index ⊎ IsMetBy met trail followed kept clause index)
 

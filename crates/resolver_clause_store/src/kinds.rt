@@ -1,7 +1,11 @@
 //! What variables stand for, and what clauses state.
 
+ghost use Rattle.std.specs.Prelude.{◌≡◌, [], IfOk};
+
 use crate::data::{By, Requirement};
 use crate::ids::{StringId, VersionSetId};
+use std::alloc::{AllocError, Global};
+use std::marker::Model;
 
 /// What a variable stands for.
 #[derive(Clone, Copy, PartialEq, Eq, Hash)]
@@ -18,6 +22,54 @@ pub enum Origin<N, S> {
     ConditionHelper(VersionSetId),
 }
 
+/// A disjunct of a condition: version sets that all have to be met. In contracts, it is the list of them.
+#[derive(Drop)]
+pub struct Disjunct {
+    version_sets: Vec<VersionSetId>,
+}
+
+impl Model for Disjunct {
+    ghost use Rattle.std.specs.Prelude.{List};
+    ghost use Rattle.resolver_clause_store.specs.declared.ids.VersionSetId.{VersionSetId as Id};
+
+    ghost Value = { List Id };
+
+    ghost view = { λ d. d.version_sets.items };
+}
+
+impl Disjunct {
+    /// Returns the disjunct of these version sets.
+    pub fn new(version_sets: Vec<VersionSetId>) -> Self
+        ensures { result ≡ version_sets.items }
+    {
+        Disjunct { version_sets }
+    }
+
+    /// Returns the disjunct without version sets, which is always met.
+    pub fn empty(alloc: Global) -> Self
+        ensures { result ≡ [] }
+    {
+        Disjunct {
+            version_sets: Vec::new(alloc),
+        }
+    }
+
+    /// Returns the version sets.
+    pub fn as_slice(&self) -> &[VersionSetId]
+        ensures { result.now ≡ self.now }
+    {
+        self.version_sets.as_slice()
+    }
+
+    /// Returns another disjunct of the same version sets.
+    pub fn copy(&self, alloc: Global) -> Result<Self, AllocError>
+        ensures { IfOk result (λ copy. copy ≡ self.now) }
+    {
+        let version_sets = Vec::from_slice(alloc, &self.version_sets)?;
+        Ok(Disjunct { version_sets })
+    }
+}
+
 /// What a clause states, in the provider's ids.
 #[derive(Drop)]
 pub enum ClauseKind<N, S> {
@@ -27,7 +79,7 @@ pub enum ClauseKind<N, S> {
     /// requirement's candidates is.
     Requires {
         parent: By<S>,
-        disjunct: Vec<VersionSetId>,
+        disjunct: Disjunct,
         requirement: Requirement,
     },
     /// The candidate implies the helper.

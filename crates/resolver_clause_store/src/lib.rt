@@ -16,6 +16,7 @@ mod literals;
 mod numbers;
 mod owner;
 mod pairs;
+mod parked;
 mod provider;
 mod questions;
 mod queue;
@@ -41,7 +42,7 @@ pub use data::{
 pub use decisions::Choice;
 pub use ids::{ConditionId, StringId, VersionSetId, VersionSetUnionId};
 pub use index_sets::{append, is_among, place_of};
-pub use kinds::{ClauseKind, Origin};
+pub use kinds::{ClauseKind, Disjunct, Origin};
 pub use laws::{
     a_run_over_nothing_is_its_first_answer, first_choices_are_least_closed,
     the_need_closure_is_least_closed,

@@ -1,4 +1,4 @@
-//! Numbered lists of numbers.
+//! Numbered lists of numbers that only grow.
 
 ghost use Rattle.std.specs.Prelude.{◌≡◌, ◌≢◌, ◌≤◌, ◌+◌, ◌∷◌, ◌++◌, [], ℕ, OnOk, length};
 
@@ -11,7 +11,7 @@ pub struct Lists {
 }
 
 impl Lists {
-    ghost use Rattle.resolver_clause_store.specs.Queues.{list_of};
+    ghost use Rattle.resolver_clause_store.specs.NumberedLists.{list_of};
 
     /// Returns empty lists.
     pub fn new(alloc: Global) -> Self
@@ -51,20 +51,6 @@ impl Lists {
     {
         self.reach(number)?;
         self.lists[number].push(item)?;
-        Ok(())
-    }
-
-    /// Moves the items of a list to the end of another list.
-    pub fn take(&mut self, number: usize, items: &mut Vec<u32>) -> Result<(), AllocError>
-        ensures items { OnOk result (items.new.items ≡ items.old.items ++ list_of self.old number) }
-        ensures here { OnOk result (list_of self.new number ≡ []) }
-        ensures others { (other : ℕ) → other ≢ number → list_of self.new other ≡ list_of self.old other }
-    {
-        if number >= self.lists.len() {
-            return Ok(());
-        }
-        items.extend_from_slice(&self.lists[number])?;
-        self.lists[number].clear();
         Ok(())
     }
 }

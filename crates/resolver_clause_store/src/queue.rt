@@ -15,10 +15,10 @@ ghost use Rattle.resolver_clause_store.specs.Settled.{AllSettled};
 
 use crate::clauses::{Clauses, StoredRequirement, clause};
 use crate::decisions::{Choice, choice_at};
-use crate::lists::Lists;
 use crate::literals::{Literal, Variable};
 use crate::numbers::narrow;
 use crate::owner::Owner;
+use crate::parked::ParkedLists;
 use crate::ranks::Ranks;
 use crate::scores::Activity;
 use crate::standing::{Standing, standing_of};
@@ -46,9 +46,9 @@ pub struct DecideQueue {
     /// The requirements that are not put aside.
     active: Vec<u32>,
     /// The requirements that are put aside for a variable that is not true, by that variable.
-    inactive: Lists,
+    inactive: ParkedLists,
     /// The requirements that are put aside for a candidate that is true, by that candidate.
-    met: Lists,
+    met: ParkedLists,
     /// The variables of the trail's entries that were followed.
     followed: Vec<Variable>,
     /// The number of first entries that have not changed since they were followed.
@@ -66,8 +66,8 @@ impl DecideQueue {
     {
         DecideQueue {
             active: Vec::new(alloc),
-            inactive: Lists::new(alloc),
-            met: Lists::new(alloc),
+            inactive: ParkedLists::new(alloc),
+            met: ParkedLists::new(alloc),
             followed: Vec::new(alloc),
             kept: 0,
             ranks: Ranks::new(alloc, activity),

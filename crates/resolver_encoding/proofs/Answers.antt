@@ -77,12 +77,12 @@ module _ {N S : Type 0} (u : Universe N S) (root : Demands) (kinds : List (Claus
 
     met_by : (by : By S) (r : Requirement) → IsPresent by chosen → IsMade u kinds chosen by r → Meets (requirement_candidates u r) chosen
     met_by by r present (made_direct disjunct meets clause) =
-        let on : (v : VersionSetId) → Contains disjunct.items v → Meets (matching u v) chosen → Takes (ConditionHelper v) true = λ v c m.
+        let on : (v : VersionSetId) → Contains disjunct v → Meets (matching u v) chosen → Takes (ConditionHelper v) true = λ v c m.
         first_of_two (AnyOf (ConditionHelper v) m.shared) (atom (ConditionHelper v) true) (atom (Solvable m.shared) false) tt
         (covers.helpers by disjunct r clause v c m.shared m.in_first) refl (part.taken m.shared m.in_second) in
         let candidate = settled.decided by disjunct r clause (taken_by by present)
-        (λ k d below. let c = Contains-get_or disjunct.items k d below in
-        on _ c (All-contains (λ xs. Meets xs chosen) (map (matching u) disjunct.items) _ meets (Contains-map (matching u) disjunct.items _ c))) in
+        (λ k d below. let c = Contains-get_or disjunct k d below in
+        on _ c (All-contains (λ xs. Meets xs chosen) (map (matching u) disjunct) _ meets (Contains-map (matching u) disjunct _ c))) in
         record { shared = candidate.0; in_first = candidate.1; in_second = part.closed by disjunct r candidate.0 clause present meets candidate.1 candidate.2 }
     met_by by r present (made_gated s is implied clause) =
         let In : By S → Type 0 = λ b. IsPresent b chosen in

@@ -1,6 +1,6 @@
 -- A finished search over variables is a finished trail of the atoms that they stand for.
 use Rattle.std.proofs.Common.{◌≡◌, ◌≢◌, ℕ, zero, suc, ◌<◌, ◌≤◌, ◌⊎◌, List, [], ◌∷◌, ◌++◌, length, get_or, Option, Some, None, Bool, true, false, arith, inl}
-use Rattle.std.proofs.Common.{inr, refl, sym, ap, ◌∙◌, subst, ⊎_elim, Contains, All, Vec, Global}
+use Rattle.std.proofs.Common.{inr, refl, sym, ap, ◌∙◌, subst, ⊎_elim, Contains, All}
 use Rattle.std.specs.Prelude.{not, map, slice_get, Any}
 use Rattle.std.specs.List.{AllZip}
 use Rattle.std.specs.Option.{option_map, option_map_or}
@@ -335,9 +335,9 @@ module _ {N S : Type 0} (u : Universe N S) (root : Demands) (notes : Notes N S) 
       let in_order : In_order kind = (encoding.encoded.each chosen.requirement.number kind is).in_order in
       let inside : Has kind = Contains-at notes.kinds chosen.requirement.number kind is in
       ⊎_elim
-      (λ (w : (by : By S) × (disjunct : Vec VersionSetId Global) × (r : Requirement) × (kind ≡ Requires by disjunct r)).
-      let left = first_left x slot at chosen (origin_by w.0) w.1.items w.2 (subst In_order w.3 in_order) in
-      because_left x slot (origin_by w.0) w.1.items w.2 left
+      (λ (w : (by : By S) × (disjunct : List VersionSetId) × (r : Requirement) × (kind ≡ Requires by disjunct r)).
+      let left = first_left x slot at chosen (origin_by w.0) w.1 w.2 (subst In_order w.3 in_order) in
+      because_left x slot (origin_by w.0) w.1 w.2 left
       (needed w.0 w.1 w.2 left.s (subst Has w.3 inside) left.parent_true left.helpers_true left.first_open))
       (λ (w : (r : Requirement) × (kind ≡ GateRequires r)).
       let left = first_left x slot at chosen (Gate w.0) [] w.0 (subst In_order w.1 in_order) in
@@ -518,12 +518,12 @@ module _ {N S : Type 0} (u : Universe N S) (root : Demands) (notes : Notes N S) 
       (atom_cases parent vs r on helpers a.0 (subst (Among_atoms a.0) same a.1)))
       met
 
-  pub decided : (by : By S) (disjunct : Vec VersionSetId Global) (r : Requirement) → Contains notes.kinds (Requires by disjunct r) →
+  pub decided : (by : By S) (disjunct : List VersionSetId) (r : Requirement) → Contains notes.kinds (Requires by disjunct r) →
       Contains all (atom (origin_by by) true) →
-      All (λ v. Contains all (atom (ConditionHelper v) true)) disjunct.items → (s : S) × Contains (requirement_candidates u r) s ×
+      All (λ v. Contains all (atom (ConditionHelper v) true)) disjunct → (s : S) × Contains (requirement_candidates u r) s ×
       Contains all (atom (Solvable s) true)
   decided by disjunct r inside on helpers =
-      decided_kind (Requires by disjunct r) (origin_by by) disjunct.items r refl (inl (by, disjunct, r, refl)) inside on helpers
+      decided_kind (Requires by disjunct r) (origin_by by) disjunct r refl (inl (by, disjunct, r, refl)) inside on helpers
 
   decided_gate : (r : Requirement) → Contains notes.kinds (GateRequires r) → Contains all (atom (Gate r) true) → (s : S) ×
       Contains (requirement_candidates u r) s × Contains all (atom (Solvable s) true)

@@ -224,7 +224,7 @@ module _ {N S : Type 0} (u : Universe N S) where
     pub candidates : (s : S) → Contains (requirement_candidates u r) s → Contains notes.seen s
 
   abbrev pub IsPrepared : Doing N S → Notes N S → ClauseKind N S → Type 0
-  IsPrepared doing notes (Requires by disjunct r) = IsReady notes disjunct.items r
+  IsPrepared doing notes (Requires by disjunct r) = IsReady notes disjunct r
   IsPrepared doing notes (Lock s t) = ⊤
   IsPrepared doing notes (Excluded s reason) = ⊤
   IsPrepared doing notes InstallRoot = ⊤
@@ -316,16 +316,16 @@ module _ {N S : Type 0} (u : Universe N S) where
         listed = listed.listed;
         ask = listed.ask;
         helpers = λ by disjunct r h. ⊎_elim (λ earlier. before.helpers by disjunct r earlier) (λ e.
-            let ready : IsReady notes disjunct.items r = subst Prepared e next.prepared in ready.helpers)
+            let ready : IsReady notes disjunct r = subst Prepared e next.prepared in ready.helpers)
             (Contains-push_cases notes.kinds kind (Requires by disjunct r) h);
         packages = λ by disjunct r h. ⊎_elim (λ earlier. before.packages by disjunct r earlier) (λ e.
-            let ready : IsReady notes disjunct.items r = subst Prepared e next.prepared in ready.packages)
+            let ready : IsReady notes disjunct r = subst Prepared e next.prepared in ready.packages)
             (Contains-push_cases notes.kinds kind (Requires by disjunct r) h);
         candidates = λ by disjunct r h. ⊎_elim (λ earlier. before.candidates by disjunct r earlier) (λ e.
-            let ready : IsReady notes disjunct.items r = subst Prepared e next.prepared in ready.candidates)
+            let ready : IsReady notes disjunct r = subst Prepared e next.prepared in ready.candidates)
             (Contains-push_cases notes.kinds kind (Requires by disjunct r) h);
         once = λ by disjunct r h. ⊎_elim (λ earlier. before.once by disjunct r earlier) (λ e.
-            let ready : IsReady notes disjunct.items r = subst Prepared e next.prepared in ready.once)
+            let ready : IsReady notes disjunct r = subst Prepared e next.prepared in ready.once)
             (Contains-push_cases notes.kinds kind (Requires by disjunct r) h);
         gate_packages = λ r h. ⊎_elim (λ earlier. before.gate_packages r earlier) (λ e.
             let ready : IsGateReady notes r = subst Prepared e next.prepared in ready.packages) (Contains-push_cases notes.kinds kind (GateRequires r) h);

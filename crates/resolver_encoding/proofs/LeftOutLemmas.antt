@@ -1,6 +1,6 @@
 -- A solvable that is left out fits into no answer.
 use Rattle.std.proofs.Common.{◌≡◌, ℕ, List, [], ◌∷◌, ◌++◌, arith, length-append, Bool, true, false, inl, inr, refl, sym, ap, ◌∙◌, subst, ⊎_elim, Contains}
-use Rattle.std.proofs.Common.{Some, Vec, Global}
+use Rattle.std.proofs.Common.{Some}
 use Rattle.std.specs.Prelude.{map, slice_get}
 use Rattle.std.specs.Option.{option_map_or}
 use Rattle.std.proofs.Math.ListN.{get_or-append}
@@ -61,14 +61,14 @@ module _ {N S : Type 0} (u : Universe N S) where
       let Found : Type 0 = (s : S) × (a.origin ≡ Solvable s) in
       let Among : ClauseKind N S → Type 0 = λ k. Contains (atoms_of u k) a in
       ⊎_elim
-      (λ (w : (by : By S) × (disjunct : Vec VersionSetId Global) × (r : Requirement) × (kind ≡ Requires by disjunct r)).
-      let helpers : List (Atom N S) = map (λ v. atom (ConditionHelper v) false) w.1.items in
+      (λ (w : (by : By S) × (disjunct : List VersionSetId) × (r : Requirement) × (kind ≡ Requires by disjunct r)).
+      let helpers : List (Atom N S) = map (λ v. atom (ConditionHelper v) false) w.1 in
       let candidates : List (Atom N S) = map (λ s. atom (Solvable s) true) (requirement_candidates u w.2) in
       let parent : Atom N S = atom (origin_by w.0) false in
       let found : Found = ⊎_elim
       (λ e. absurd (negative a parent refl e on))
       (λ rest. ⊎_elim
-      (λ helper. let v = Contains-map_back (λ v. atom (ConditionHelper v) false) w.1.items a helper in
+      (λ helper. let v = Contains-map_back (λ v. atom (ConditionHelper v) false) w.1 a helper in
       absurd (negative a (atom (ConditionHelper v.0) false) refl v.2 on))
       (λ candidate. candidate_in (requirement_candidates u w.2) a candidate)
       (Contains-append_cases helpers candidates a rest))

@@ -34,3 +34,4 @@ pub mod LeftOutLemmas
 pub mod LedLemmas
 pub mod TableLemmas
 pub mod LedReading
+pub mod StoredKindLemmas

@@ -117,7 +117,7 @@ module _ {N S : Type 0} (u : Universe N S) (root : Demands) (lawful : HasLawfulS
     because : (earlier : List (Atom N S)) → Agrees earlier → (a : Atom N S) → IsBecause u kinds [] [] earlier a → value a.origin ≡ a.positive
     because earlier before a (needed by disjunct r s clause parent helpers open_one) =
         let here_is = present u (follows u codes) lawful.same_solvable firsts by (before _ parent) in
-        let meets : AllMeet firsts (map (matching u) disjunct.items) = All-map (λ xs. Meets xs firsts) (matching u) disjunct.items
+        let meets : AllMeet firsts (map (matching u) disjunct) = All-map (λ xs. Meets xs firsts) (matching u) disjunct
         (λ k d below. helper_meets u (follows u codes) lawful.same_solvable firsts kinds (defines u root kinds codes are_codes are_true lawful.same_solvable) _
         (before _ (helpers k d below))) in
         let t = All-contains (IsTrueClause u codes root) kinds (Requires by disjunct r) are_true clause in

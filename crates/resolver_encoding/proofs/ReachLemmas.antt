@@ -210,12 +210,12 @@ module _ {N S : Type 0} (u : Universe N S) (s : S) where
   asks_for_it : (kind : ClauseKind N S) → HasProperHelper kind → (a : Atom N S) → Contains (atoms_of u kind) a → IsIt a → AsksForIt kind
   asks_for_it InstallRoot proper a h it = not_root Root refl (only_atom (atom Root true) a h it).1
   asks_for_it (RequiresKind by disjunct r) proper a h it =
-      let helpers : List (Atom N S) = map (λ v. atom (ConditionHelper v) false) disjunct.items in
+      let helpers : List (Atom N S) = map (λ v. atom (ConditionHelper v) false) disjunct in
       let candidates : List (Atom N S) = map (λ t. atom (Solvable t) true) (requirement_candidates u r) in
       ⊎_elim
       (λ (is : atom (origin_by by) false ≡ a). absurd (by_not by (subst IsIt (sym is) it)))
       (λ (later : Contains (helpers ++ candidates) a). ⊎_elim
-      (λ (helper : Contains helpers a). absurd (helpers_not disjunct.items a helper it))
+      (λ (helper : Contains helpers a). absurd (helpers_not disjunct a helper it))
       (λ (candidate : Contains candidates a). candidate_is (requirement_candidates u r) a candidate it)
       (Contains-append_cases helpers candidates a later))
       (cons_cases (atom (origin_by by) false) (helpers ++ candidates) a h)

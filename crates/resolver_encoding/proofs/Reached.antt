@@ -98,7 +98,7 @@ module _ {N S : Type 0} (u : Universe N S) (root : Demands) (lawful : HasLawfulS
         IsBecause u kinds seeds refused earlier a → value a.origin ≡ a.positive
     because earlier before a on_trail (needed by disjunct r s clause parent helpers candidate) =
         let here_is = present u (follows u codes) lawful.same_solvable cl.part by (before _ parent) in
-        let meets : AllMeet cl.part (map (matching u) disjunct.items) = All-map (λ xs. Meets xs cl.part) (matching u) disjunct.items
+        let meets : AllMeet cl.part (map (matching u) disjunct) = All-map (λ xs. Meets xs cl.part) (matching u) disjunct
         (λ k d below. helper_meets u (follows u codes) lawful.same_solvable cl.part kinds (defines u root kinds codes are_codes are_true lawful.same_solvable) _
         (before _ (helpers k d below))) in
         of_part s ((part_of cl).closed by disjunct r s clause here_is meets (first_open_candidate u earlier r s candidate) on_trail)

@@ -63,10 +63,10 @@ module _ {N S : Type 0} (u : Universe N S) (implies : Origin N S → S → Bool)
     pub refuted : ObeysAll set (IsStated u implies kinds) → (kind : ClauseKind N S) → Contains kinds kind → IsFalse (atoms_of u kind) → ⊥
     refuted obeys InstallRoot inside wrong = false≢true (sym (wrong.each Root true first))
     refuted obeys (Requires by disjunct requirement) inside wrong =
-        let on : (v : VersionSetId) → Contains disjunct.items v → Meets (matching u v) set = λ v c.
-        helper_meets v (wrong.each (ConditionHelper v) false (later (on_left _ (mapped (λ w. atom (ConditionHelper w) false) disjunct.items v c)))) in
-        let meets : AllMeet set (map (matching u) disjunct.items) =
-        All-map (λ xs. Meets xs set) (matching u) disjunct.items (λ k d below. on _ (Contains-get_or disjunct.items k d below)) in
+        let on : (v : VersionSetId) → Contains disjunct v → Meets (matching u v) set = λ v c.
+        helper_meets v (wrong.each (ConditionHelper v) false (later (on_left _ (mapped (λ w. atom (ConditionHelper w) false) disjunct v c)))) in
+        let meets : AllMeet set (map (matching u) disjunct) =
+        All-map (λ xs. Meets xs set) (matching u) disjunct (λ k d below. on _ (Contains-get_or disjunct k d below)) in
         let met = obeys.each _ (states_requires by disjunct requirement inside) (present by (wrong.each (origin_by by) false first)) meets in
         both_ways _ (wrong.each (Solvable met.shared) true
         (later (on_right _ (mapped (λ s. atom (Solvable s) true) (requirement_candidates u requirement) met.shared met.in_first))))

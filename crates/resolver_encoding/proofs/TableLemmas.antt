@@ -1,6 +1,6 @@
 -- The literals of a clause, its kind, and the origins that it mentions.
 use Rattle.std.proofs.Common.{◌≡◌, ◌<◌, ◌⊎◌, ℕ, List, [], ◌∷◌, ◌++◌, map, refl, sym, ap, ◌∙◌, subst, ⊎_elim, inl, inr}
-use Rattle.std.proofs.Common.{Bool, true, false, Contains, Vec, Global, length, arith}
+use Rattle.std.proofs.Common.{Bool, true, false, Contains, length, arith}
 use Rattle.std.specs.Prelude.{Option, Some, None, get_or, slice_get, take}
 use Rattle.std.specs.List.{AllZip}
 use Rattle.std.proofs.lemmas.List.{ext_get_or, get_or-take, length-take-le}
@@ -198,16 +198,24 @@ module _ {N S : Type 0} (u : Universe N S) where
       (cons_cases (atom (Gate r) false) (map (λ s. atom (Solvable s) true) (requirement_candidates u r)) w.0 w.1)
 
   -- the origins that a requirement clause mentions
-  pub requirement_mentions : (by : By S) (disjunct : Vec VersionSetId Global) (r : Requirement) (o : Origin N S) →
-      IsMentioned (atoms_of u (Requires by disjunct r)) o → IsHelped u by disjunct.items o ⊎ IsCandidate u r o
+  pub requirement_mentions : (by : By S) (disjunct : List VersionSetId) (r : Requirement) (o : Origin N S) →
+      IsMentioned (atoms_of u (Requires by disjunct r)) o → IsHelped u by disjunct o ⊎ IsCandidate u r o
   requirement_mentions by disjunct r o w =
-      let helpers : List (Atom N S) = map (λ v. atom (ConditionHelper v) false) disjunct.items in
+      let helpers : List (Atom N S) = map (λ v. atom (ConditionHelper v) false) disjunct in
       let candidates : List (Atom N S) = map (λ s. atom (Solvable s) true) (requirement_candidates u r) in
       ⊎_elim (λ (is : atom (origin_by by) false ≡ w.0). inl (helped_itself (w.2 ∙ sym (ap (λ (b : Atom N S). b.origin) is))))
       (λ (later : Contains (helpers ++ candidates) w.0). ⊎_elim
       (λ (help : Contains helpers w.0).
-      let back = Contains-map_back (λ v. atom (ConditionHelper v) false) disjunct.items w.0 help in
+      let back = Contains-map_back (λ v. atom (ConditionHelper v) false) disjunct w.0 help in
       inl (helped_by back.0 back.1 (inl (w.2 ∙ sym (ap (λ (b : Atom N S). b.origin) back.2)))))
       (λ (one : Contains candidates w.0). inr (candidate_mentioned r o (w.0, one, w.2)))
       (Contains-append_cases helpers candidates w.0 later))
       (cons_cases (atom (origin_by by) false) (helpers ++ candidates) w.0 w.1)
+
+  -- the same for a list that equals the disjunct
+  pub equal_mentions : (by : By S) (given disjunct : List VersionSetId) (r : Requirement) → given ≡ disjunct → (o : Origin N S) →
+      IsMentioned (atoms_of u (Requires by given r)) o → IsHelped u by disjunct o ⊎ IsCandidate u r o
+  equal_mentions by given disjunct r same =
+      let Mentions : List VersionSetId → Type 0 =
+      λ list. (o : Origin N S) → IsMentioned (atoms_of u (Requires by given r)) o → IsHelped u by list o ⊎ IsCandidate u r o in
+      subst Mentions same (requirement_mentions by given r)

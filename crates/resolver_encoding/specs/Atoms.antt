@@ -32,7 +32,7 @@ origin_by (BySolvable s) = Solvable s
 abbrev pub atoms_of : {N S : Type 0} → Universe N S → ClauseKind N S → List (Atom N S)
 atoms_of u InstallRoot = atom Root true ∷ []
 atoms_of u (Requires parent disjunct requirement) = atom (origin_by parent) false ∷
-    (map (λ v. atom (ConditionHelper v) false) disjunct.items ++ map (λ s. atom (Solvable s) true) (requirement_candidates u requirement))
+    (map (λ v. atom (ConditionHelper v) false) disjunct ++ map (λ s. atom (Solvable s) true) (requirement_candidates u requirement))
 atoms_of u (AnyOf helper candidate) = atom helper true ∷ atom (Solvable candidate) false ∷ []
 atoms_of u (Constrains parent version_set candidate) = atom (origin_by parent) false ∷ atom (Solvable candidate) false ∷ []
 atoms_of u (GateRequires requirement) = atom (Gate requirement) false ∷ map (λ s. atom (Solvable s) true) (requirement_candidates u requirement)
@@ -73,7 +73,7 @@ second_atom kind = None
 
 -- the version sets whose condition helpers a clause depends on
 abbrev pub helpers_of : {N S : Type 0} → ClauseKind N S → List VersionSetId
-helpers_of (Requires parent disjunct requirement) = disjunct.items
+helpers_of (Requires parent disjunct requirement) = disjunct
 helpers_of kind = []
 
 -- the one or two atoms at the front of a clause
@@ -114,7 +114,7 @@ is_satisfied value atoms = list_any (λ a. beq (value a.origin) a.positive) atom
 -- the statements that a list of clauses makes
 pub data IsStated {N S : Type 0} (u : Universe N S) (implies : Origin N S → S → Bool) (kinds : List (ClauseKind N S)) : Statement N S → Type 0 where
   states_requires : (by : By S) (disjunct : _) (requirement : Requirement) → Contains kinds (Requires by disjunct requirement) →
-      IsStated u implies kinds (requires by requirement (requirement_candidates u requirement) (map (matching u) disjunct.items))
+      IsStated u implies kinds (requires by requirement (requirement_candidates u requirement) (map (matching u) disjunct))
   states_constrains : (by : By S) (v : VersionSetId) (s : S) → Contains kinds (Constrains by v s) → IsStated u implies kinds (constrains by v s)
   -- a gate makes a statement for each solvable that implies it
   states_gated : (s : S) (requirement : Requirement) → Contains kinds (GateRequires requirement) → implies (Gate requirement) s ≡ true →

@@ -1,7 +1,6 @@
 -- The notes of an encoding, the invariant that they keep, and the steps that change them.
-use Rattle.std.specs.Prelude.{ℕ, ◌≡◌, ◌≢◌, ◌⊎◌, ◌≤◌, ◌^◌, Bool, List, map, Option, Some, None, [], ◌∷◌, ◌++◌, Contains, All, Vec, length, slice_get, ⊤}
+use Rattle.std.specs.Prelude.{ℕ, ◌≡◌, ◌≢◌, ◌⊎◌, ◌≤◌, ◌^◌, Bool, List, map, Option, Some, None, [], ◌∷◌, ◌++◌, Contains, All, length, slice_get, ⊤}
 use Rattle.std.specs.List.{AllZip}
-use Rattle.std.specs.declared.alloc.Global.{Global}
 use Rattle.resolver_clause_store.specs.Lists.{HaveSameMembers, IsWithin}
 use Rattle.resolver_clause_store.specs.Universe.{Universe, Demands, Needs, known, unknown}
 use Rattle.resolver_clause_store.specs.Candidates.{matching, others, requirement_candidates, version_sets}
@@ -73,7 +72,7 @@ pub record IsTrueEntry {N S : Type 0} (u : Universe N S) (root : Demands) (e : D
 
 -- the clause is a requirement clause
 abbrev pub IsRequirementKind : {N S : Type 0} → ClauseKind N S → Type 0
-IsRequirementKind {N} {S} kind = ((by : By S) × (disjunct : Vec VersionSetId Global) × (r : Requirement) × (kind ≡ Requires by disjunct r)) ⊎
+IsRequirementKind {N} {S} kind = ((by : By S) × (disjunct : List VersionSetId) × (r : Requirement) × (kind ≡ Requires by disjunct r)) ⊎
     ((r : Requirement) × (kind ≡ GateRequires r))
 
 -- if the clause defines a helper by `AnyOf`, that is a gate or a condition helper
@@ -135,13 +134,13 @@ pub record IsEncodingWhile {N S : Type 0} (u : Universe N S) (doing : Doing N S)
   pub listed : (n : ℕ) (kind : ClauseKind N S) → slice_get notes.kinds n ≡ Some kind → IsRequirementKind kind → Contains notes.requirements n
   pub ask : (n : ℕ) → Contains notes.requirements n → (kind : ClauseKind N S) × (slice_get notes.kinds n ≡ Some kind) × IsRequirementKind kind
   -- for each requirement that has a clause of its own
-  pub helpers : (by : By S) (disjunct : Vec VersionSetId Global) (r : Requirement) → Contains notes.kinds (Requires by disjunct r) → (v : VersionSetId) →
-      Contains disjunct.items v → Contains notes.helped v
-  pub packages : (by : By S) (disjunct : Vec VersionSetId Global) (r : Requirement) → Contains notes.kinds (Requires by disjunct r) → (v : VersionSetId) →
+  pub helpers : (by : By S) (disjunct : List VersionSetId) (r : Requirement) → Contains notes.kinds (Requires by disjunct r) → (v : VersionSetId) →
+      Contains disjunct v → Contains notes.helped v
+  pub packages : (by : By S) (disjunct : List VersionSetId) (r : Requirement) → Contains notes.kinds (Requires by disjunct r) → (v : VersionSetId) →
       Contains (version_sets u r) v → Contains notes.asked (u.version_set_name v)
-  pub candidates : (by : By S) (disjunct : Vec VersionSetId Global) (r : Requirement) → Contains notes.kinds (Requires by disjunct r) → (s : S) →
+  pub candidates : (by : By S) (disjunct : List VersionSetId) (r : Requirement) → Contains notes.kinds (Requires by disjunct r) → (s : S) →
       Contains (requirement_candidates u r) s → Contains notes.seen s
-  pub once : (by : By S) (disjunct : Vec VersionSetId Global) (r : Requirement) → Contains notes.kinds (Requires by disjunct r) → AreDistinct disjunct.items
+  pub once : (by : By S) (disjunct : List VersionSetId) (r : Requirement) → Contains notes.kinds (Requires by disjunct r) → AreDistinct disjunct
   -- for each gate
   pub gate_packages : (r : Requirement) → Contains notes.kinds (GateRequires r) → (v : VersionSetId) → Contains (version_sets u r) v →
       Contains notes.asked (u.version_set_name v)

@@ -21,3 +21,4 @@ pub mod SoFar
 pub mod Turns
 pub mod LeftOut
 pub mod Led
+pub mod Kinds

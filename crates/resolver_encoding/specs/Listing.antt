@@ -42,7 +42,7 @@ SomeOf {X} xs Says st = (x : X) × Contains xs x × Says x st
 -- what the clause states about sets; the sources have the solvables that imply each helper
 abbrev pub StatesRule : {N S : Type 0} → Universe N S → Sources S → ClauseKind N S → Statement N S → Type 0
 StatesRule u sources InstallRoot st = ⊥
-StatesRule u sources (Requires by disjunct r) st = st ≡ requires by r (requirement_candidates u r) (map (matching u) disjunct.items)
+StatesRule u sources (Requires by disjunct r) st = st ≡ requires by r (requirement_candidates u r) (map (matching u) disjunct)
 StatesRule u sources (AnyOf helper s) st = ⊥
 StatesRule u sources (Constrains by v s) st = st ≡ constrains by v s
 StatesRule {N} {S} u sources (GateRequires r) st = (s : S) × IsNamed sources.gates r s × (st ≡ requires (BySolvable s) r (requirement_candidates u r) [])

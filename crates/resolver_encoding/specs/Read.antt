@@ -1,6 +1,5 @@
 -- When the clauses cover all that the provider's rules state about a set, and when no literal is left to set.
-use Rattle.std.specs.Prelude.{ℕ, ◌≡◌, ◌≢◌, ◌⊎◌, Bool, true, false, not, List, Contains, All, map, Vec}
-use Rattle.std.proofs.Common.{Global}
+use Rattle.std.specs.Prelude.{ℕ, ◌≡◌, ◌≢◌, ◌⊎◌, Bool, true, false, not, List, Contains, All, map}
 use Rattle.resolver_clause_store.specs.Universe.{Universe, Demands, unknown}
 use Rattle.resolver_clause_store.specs.Candidates.{matching, others, requirement_candidates}
 use Rattle.resolver_clause_store.specs.Conditions.{IsActive}
@@ -29,14 +28,14 @@ pub record IsSettled {N S : Type 0} (u : Universe N S) (kinds : List (ClauseKind
   -- for helpers only: a watched clause may leave open a solvable that it forces
   pub unit : (k : ClauseKind N S) (a : Atom N S) → IsHelper a.origin → Contains kinds k → Contains (atoms_of u k) a →
       ((b : Atom N S) → Contains (atoms_of u k) b → (b ≡ a) ⊎ Takes b.origin (not b.positive)) → Takes a.origin a.positive
-  pub decided : (by : By S) (disjunct : Vec VersionSetId Global) (r : Requirement) → Contains kinds (Requires by disjunct r) → Takes (origin_by by) true →
-      All (λ v. Takes (ConditionHelper v) true) disjunct.items → (s : S) × Contains (requirement_candidates u r) s × Takes (Solvable s) true
+  pub decided : (by : By S) (disjunct : List VersionSetId) (r : Requirement) → Contains kinds (Requires by disjunct r) → Takes (origin_by by) true →
+      All (λ v. Takes (ConditionHelper v) true) disjunct → (s : S) × Contains (requirement_candidates u r) s × Takes (Solvable s) true
   pub decided_gate : (r : Requirement) → Contains kinds (GateRequires r) → Takes (Gate r) true → (s : S) × Contains (requirement_candidates u r) s ×
       Takes (Solvable s) true
 
 -- the clauses of a requirement that holds in the set: a clause of its own, or those of its gate
 pub data IsMade {N S : Type 0} (u : Universe N S) (kinds : List (ClauseKind N S)) (chosen : List S) (by : By S) (r : Requirement) : Type 0 where
-  made_direct : (disjunct : Vec VersionSetId Global) → AllMeet chosen (map (matching u) disjunct.items) → Contains kinds (Requires by disjunct r) →
+  made_direct : (disjunct : List VersionSetId) → AllMeet chosen (map (matching u) disjunct) → Contains kinds (Requires by disjunct r) →
       IsMade u kinds chosen by r
   made_gated : (s : S) → by ≡ BySolvable s → Contains kinds (AnyOf (Gate r) s) → Contains kinds (GateRequires r) → IsMade u kinds chosen by r
 
@@ -57,8 +56,8 @@ pub record Covers {N S : Type 0} (u : Universe N S) (root : Demands) (kinds : Li
       IsActive u (Contains chosen) r →
       IsMade u kinds chosen by r.requirement
   -- each matching solvable implies the condition helper
-  pub helpers : (by : By S) (disjunct : Vec VersionSetId Global) (r : Requirement) → Contains kinds (Requires by disjunct r) → (v : VersionSetId) →
-      Contains disjunct.items v →
+  pub helpers : (by : By S) (disjunct : List VersionSetId) (r : Requirement) → Contains kinds (Requires by disjunct r) → (v : VersionSetId) →
+      Contains disjunct v →
       (s : S) → Contains (matching u v) s → Contains kinds (AnyOf (ConditionHelper v) s)
   pub constraints : (by : By S) (v : VersionSetId) (s : S) → IsPresent by chosen → Contains (demands_by u root by).constraints v → Contains (others u v) s →
       Contains chosen s →
@@ -73,7 +72,7 @@ pub record Covers {N S : Type 0} (u : Universe N S) (root : Demands) (kinds : Li
 -- the chosen solvables are true, and no other candidate of their active requirements is
 pub record IsClosedPart {N S : Type 0} (u : Universe N S) (kinds : List (ClauseKind N S)) (Takes : Origin N S → Bool → Type 0) (chosen : List S) : Type 0 where
   pub taken : (s : S) → Contains chosen s → Takes (Solvable s) true
-  pub closed : (by : By S) (disjunct : Vec VersionSetId Global) (r : Requirement) (s : S) → Contains kinds (Requires by disjunct r) → IsPresent by chosen →
-      AllMeet chosen (map (matching u) disjunct.items) → Contains (requirement_candidates u r) s → Takes (Solvable s) true → Contains chosen s
+  pub closed : (by : By S) (disjunct : List VersionSetId) (r : Requirement) (s : S) → Contains kinds (Requires by disjunct r) → IsPresent by chosen →
+      AllMeet chosen (map (matching u) disjunct) → Contains (requirement_candidates u r) s → Takes (Solvable s) true → Contains chosen s
   pub closed_gate : (t : S) (r : Requirement) (s : S) → Contains kinds (GateRequires r) → Contains chosen t → Contains kinds (AnyOf (Gate r) t) →
       Contains (requirement_candidates u r) s → Takes (Solvable s) true → Contains chosen s

@@ -1,6 +1,5 @@
 -- The state of an encoding that has read some solvables and asked some packages.
-use Rattle.std.specs.Prelude.{◌≡◌, ◌≢◌, ◌⊎◌, List, [], Some, Contains, Vec, map}
-use Rattle.std.proofs.Common.{Global}
+use Rattle.std.specs.Prelude.{◌≡◌, ◌≢◌, ◌⊎◌, List, [], Some, Contains, map}
 use Rattle.resolver_clause_store.specs.Universe.{Universe, Demands, unknown}
 use Rattle.resolver_clause_store.specs.Candidates.{matching, others, requirement_candidates, version_sets}
 use Rattle.resolver_clause_store.specs.Conditions.{IsActive}
@@ -25,7 +24,7 @@ pub record Deferred (S : Type 0) : Type 0 where
 
 -- the clauses of a requirement under a disjunct
 pub data HasClause {N S : Type 0} (kinds : List (ClauseKind N S)) (by : By S) (list : List VersionSetId) (r : Requirement) : Type 0 where
-  has_direct : (disjunct : Vec VersionSetId Global) → disjunct.items ≡ list → Contains kinds (Requires by disjunct r) → HasClause kinds by list r
+  has_direct : (disjunct : List VersionSetId) → disjunct ≡ list → Contains kinds (Requires by disjunct r) → HasClause kinds by list r
   has_gate : (s : S) → by ≡ BySolvable s → list ≡ [] → Contains kinds (AnyOf (Gate r) s) → Contains kinds (GateRequires r) → HasClause kinds by list r
 
 -- each disjunct of a requirement's condition has its clauses or is deferred
@@ -47,8 +46,8 @@ pub record IsRead {N S : Type 0} (u : Universe N S) (root : Demands) (kinds : Li
       IsForbidden kinds by v s
   pub unknowns : (s : S) (reason : StringId) → Contains read s → u.needs s ≡ unknown reason → Contains kinds (Excluded s reason)
   -- for each requirement that has its clauses
-  pub helpers : (by : By S) (disjunct : Vec VersionSetId Global) (r : Requirement) → Contains kinds (Requires by disjunct r) → (v : VersionSetId) →
-      Contains disjunct.items v →
+  pub helpers : (by : By S) (disjunct : List VersionSetId) (r : Requirement) → Contains kinds (Requires by disjunct r) → (v : VersionSetId) →
+      Contains disjunct v →
       (s : S) → Contains (matching u v) s → Contains kinds (AnyOf (ConditionHelper v) s)
   pub packages : (by : By S) (list : List VersionSetId) (r : Requirement) → HasClause kinds by list r → (v : VersionSetId) → Contains (version_sets u r) v →
       Contains asked (u.version_set_name v)

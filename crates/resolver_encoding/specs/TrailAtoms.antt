@@ -1,6 +1,5 @@
 -- A trail as a list of atoms, the latest first, and the reason of each atom.
-use Rattle.std.specs.Prelude.{◌≡◌, ◌⊎◌, Bool, true, false, not, List, [], ◌∷◌, ◌++◌, Contains, All, Vec}
-use Rattle.std.proofs.Common.{Global}
+use Rattle.std.specs.Prelude.{◌≡◌, ◌⊎◌, Bool, true, false, not, List, [], ◌∷◌, ◌++◌, Contains, All}
 use Rattle.resolver_clause_store.specs.Universe.{Universe, Demands}
 use Rattle.resolver_clause_store.specs.Candidates.{requirement_candidates}
 use Rattle.resolver_clause_store.specs.Lists.{IsWithin}
@@ -32,9 +31,9 @@ pub record IsFirstOpen {N S : Type 0} (u : Universe N S) (earlier : List (Atom N
 pub data IsBecause {N S : Type 0} (u : Universe N S) (kinds : List (ClauseKind N S)) (seeds refused : List S) (earlier : List (Atom N S)) : Atom N S →
     Type 0 where
   -- a candidate of an active requirement
-  needed : (by : By S) (disjunct : Vec VersionSetId Global) (r : Requirement) (s : S) → Contains kinds (Requires by disjunct r) →
+  needed : (by : By S) (disjunct : List VersionSetId) (r : Requirement) (s : S) → Contains kinds (Requires by disjunct r) →
       Contains earlier (atom (origin_by by) true) →
-      All (λ v. Contains earlier (atom (ConditionHelper v) true)) disjunct.items → IsFirstOpen u earlier r s →
+      All (λ v. Contains earlier (atom (ConditionHelper v) true)) disjunct → IsFirstOpen u earlier r s →
       IsBecause u kinds seeds refused earlier (atom (Solvable s) true)
   -- a candidate of a gate's requirement
   needed_gate : (r : Requirement) (s : S) → Contains kinds (GateRequires r) → Contains earlier (atom (Gate r) true) → IsFirstOpen u earlier r s →

@@ -49,7 +49,7 @@ abbrev pub IsTrueClause : {N S : Type 0} → Universe N S → (N → ℕ → S �
 IsTrueClause u codes root InstallRoot = ⊤
 IsTrueClause u codes root (Requires by disjunct requirement) =
     (r : ConditionalRequirement) × Contains (demands_by u root by).requirements r × (r.requirement ≡ requirement) ×
-    Implies u (map (matching u) disjunct.items) r.condition
+    Implies u (map (matching u) disjunct) r.condition
 IsTrueClause u codes root (AnyOf helper candidate) = IsHelper helper × (follows u codes helper candidate ≡ true)
 IsTrueClause u codes root (Constrains by version_set candidate) = Contains (demands_by u root by).constraints version_set ×
     Contains (others u version_set) candidate

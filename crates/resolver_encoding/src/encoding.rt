@@ -23,6 +23,7 @@ mod turns;
 use crate::choices::Choices;
 use crate::disjuncts::Entry;
 use crate::groups::Groups;
+use crate::kinds::ClauseKinds;
 use crate::table::ClauseTable;
 use indexmap::IndexSet;
 use resolver_clause_store::{
@@ -114,7 +115,7 @@ impl<N: Copy + Eq + Hash + Drop, S: Copy + Eq + Hash + Drop> Encoding<N, S> {
     }
 
     /// Returns the kinds of the clauses, by their numbers.
-    pub fn kinds(&self) -> &[ClauseKind<N, S>]
+    pub fn kinds(&self) -> &ClauseKinds<N, S>
         ensures { result.now ≡ (notes_in self.now).kinds }
     {
         self.table.kinds()

@@ -9,6 +9,7 @@ mod disjuncts;
 mod encoding;
 mod explain;
 mod groups;
+mod kinds;
 mod laws;
 mod listing;
 mod literals;
@@ -20,6 +21,7 @@ pub use chosen::Chosen;
 pub use codes::{digit_count, has_digit};
 pub use encoding::Encoding;
 pub use explain::rules_of_clauses;
+pub use kinds::ClauseKinds;
 pub use laws::{
     answers_satisfy_true_clauses, chosen_lists_stay, core_rules_explain,
     cores_of_encodings_explain, finished_searches_answer_first_choices,

@@ -7,6 +7,7 @@ ghost use Rattle.resolver_encoding.specs.Sources.{AreSources};
 ghost use Rattle.resolver_encoding.specs.Values.{kinds_at};
 
 use crate::groups::Groups;
+use crate::kinds::ClauseKinds;
 use resolver_clause_store::{ClauseKind, Exhausted, Origin, Requirement, VersionSetId};
 use std::alloc::Global;
 
@@ -78,9 +79,9 @@ impl<S: Copy + Drop> Sources<S> {
 }
 
 /// Returns the sources that the clauses with these numbers name.
-pub(crate) fn sources_of<N, S: Copy + Drop>(
+pub(crate) fn sources_of<N: Copy + Drop, S: Copy + Drop>(
     alloc: Global,
-    kinds: &[ClauseKind<N, S>],
+    kinds: &ClauseKinds<N, S>,
     numbers: &[usize],
 ) -> Result<Sources<S>, Exhausted>
     requires within { All (λ n. n < length kinds.now) numbers.now }
@@ -92,7 +93,8 @@ pub(crate) fn sources_of<N, S: Copy + Drop>(
         helpers: Groups::new(alloc),
     };
     for number in numbers {
-        sources.note(&kinds[*number])?;
+        let kind = kinds.at(alloc, *number)?;
+        sources.note(&kind)?;
     }
     Ok(sources)
 }

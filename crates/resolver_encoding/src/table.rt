@@ -12,6 +12,7 @@ ghost use Rattle.resolver_encoding.specs.Tables.{HasAdded, IsTableFull, with_num
 ghost use Rattle.resolver_encoding.specs.Values.{IsClauseOf};
 
 use crate::choices::{Choices, places_behind};
+use crate::kinds::ClauseKinds;
 use crate::literals::{
     count_of, depends_on, first_of, push_candidates, push_front, push_helpers, second_of,
 };
@@ -29,7 +30,7 @@ use std::mem::replace;
 pub(crate) struct ClauseTable<N: Copy + Eq + Hash + Drop, S: Copy + Eq + Hash + Drop> {
     alloc: Global,
     pub(crate) variables: Variables<N, S>,
-    kinds: Vec<ClauseKind<N, S>>,
+    kinds: ClauseKinds<N, S>,
     literals: Clauses,
     requirements: Vec<RequirementClause>,
     /// For the unions among the requirement clauses, by the numbers of the clauses.
@@ -79,7 +80,7 @@ impl<N: Copy + Eq + Hash + Drop, S: Copy + Eq + Hash + Drop> ClauseTable<N, S> {
         ClauseTable {
             alloc,
             variables: Variables::new(alloc, variable_limit),
-            kinds: Vec::new(alloc),
+            kinds: ClauseKinds::new(alloc),
             literals: Clauses::new(alloc),
             requirements: Vec::new(alloc),
             union_ends: UnionEnds::new(alloc),
@@ -231,7 +232,7 @@ impl<N: Copy + Eq + Hash + Drop, S: Copy + Eq + Hash + Drop> ClauseTable<N, S> {
         kind: ClauseKind<N, S>,
         literals: &[Literal],
     ) -> Result<(), Exhausted>
-        ensures kinds { OnOk result (self.new.kinds.items ≡ self.old.kinds.items ++ kind ∷ []) }
+        ensures kinds { OnOk result (self.new.kinds ≡ self.old.kinds ++ kind ∷ []) }
         ensures literals { OnOk result (self.new.literals ≡ self.old.literals ++ literals.now ∷ []) }
         ensures unchanged { OnErr result (table_in self.new ≡ table_in self.old) }
         ensures variables { self.new.variables ≡ self.old.variables }
@@ -239,18 +240,19 @@ impl<N: Copy + Eq + Hash + Drop, S: Copy + Eq + Hash + Drop> ClauseTable<N, S> {
         ensures clauses { self.new.clause_limit ≡ self.old.clause_limit }
         ensures memory { IfErr result (λ e. e ≡ Exhausted.Memory) }
     {
+        let count = self.kinds.len();
         self.kinds.push(kind)?;
         match self.literals.push(literals) {
             Ok(()) => Ok(()),
             Err(_) => {
-                self.kinds.pop();
+                self.kinds.truncate(count);
                 Err(Exhausted::Memory)
             }
         }
     }
 
     /// Returns the kinds of the clauses, by their numbers.
-    pub(crate) fn kinds(&self) -> &[ClauseKind<N, S>]
+    pub(crate) fn kinds(&self) -> &ClauseKinds<N, S>
         ensures { result.now ≡ (table_in self.now).kinds }
     {
         &self.kinds

@@ -4,6 +4,7 @@ pub mod VisitLemmas
 pub mod AttachingLemmas
 pub mod WatchedLemmas
 pub mod ReturningLemmas
+pub mod RunLemmas
 pub mod StoredSourceLemmas
 pub mod SourceLemmas
 pub mod MarkLemmas

@@ -6,7 +6,7 @@ use Rattle.std.specs.List.{All}
 use Rattle.std.specs.declared.alloc.Global.{Global}
 use Rattle.std.proofs.Math.ListN.{get_or-append}
 use Rattle.std.proofs.lemmas.Bool.{cases_lt}
-use Rattle.std.proofs.lemmas.List.{get_or-map, get_or_push, get_or_read, length-map, map_push, take_all, take_at, take_more}
+use Rattle.std.proofs.lemmas.List.{get_or-map, get_or_push, length-map, map_push, take_all, take_at, take_more}
 use Rattle.std.proofs.lemmas.List.Elements.{All-head, All-nil, All-push, All-tail, Contains-append_left, Contains-get_or}
 use Rattle.std.proofs.lemmas.Option.{none-some, same_Some}
 use Rattle.resolver_clause_store.specs.declared.Literal.{Literal}
@@ -260,7 +260,7 @@ same-undone old new level it undone high learnt kept base held = record {
 -- a search with a given clause after the others
 pub consistent-given : (old new : ClauseSearch) (clause : List Literal) (number place level : ℕ) → IsConsistent old →
     IsBelow (variable_count old.trail) clause → place ≡ length old.table → new.table ≡ old.table ++ clause ∷ [] →
-    new.sources ≡ old.sources ++ given_as number ∷ [] → new.places.items ≡ old.places.items ++ place ∷ [] →
+    new.sources ≡ old.sources ++ given_as number ∷ [] → new.places ≡ old.places ++ place ∷ [] →
     new.requirements.items ≡ old.requirements.items → IsUndone old.trail new.trail level → old.base ≤ level → new.learnt ≡ old.learnt →
     new.kept ≡ min old.kept (length_of new.trail) → new.base ≡ old.base → new.held ≡ old.held → IsPropagator new.table new.trail new.propagator →
     IsQueued new.queue new.trail old.table old.requirements.items → IsConsistent new
@@ -277,9 +277,9 @@ consistent-given old new clause number place level it below end table sources pl
           (chosen-grows old.table (old.table ++ clause ∷ []) old.requirements.items new.trail grows it.inside
           (chosen-undone old.table old.requirements.items old.trail new.trail level it.chosen undone));
       inside = rw (table, requirements) (λ k d b. omega (arith, it.inside k d b, longer));
-      places = rw (table, places) (All-push (λ p. p < length (old.table ++ clause ∷ [])) old.places.items place (λ k d b.
+      places = rw (table, places) (All-push (λ p. p < length (old.table ++ clause ∷ [])) old.places place (λ k d b.
           omega (arith, it.places k d b, longer)) (omega (arith, end, longer)));
-      count = rw (table, places, learnt) (omega (arith, it.count, longer, length-append old.places.items (place ∷ [])));
+      count = rw (table, places, learnt) (omega (arith, it.count, longer, length-append old.places (place ∷ [])));
       kept = omega (arith, kept);
       propagator = propagator;
       turn = rw (base, held) (turn-undone old.trail new.trail old.base old.held old.kept level new.kept it.turn undone high kept);
@@ -288,28 +288,24 @@ consistent-given old new clause number place level it below end table sources pl
     }
 
 pub loaded-clause : (old new : ClauseSearch) (given : List (List Literal)) (numbers : List ℕ) (clause : List Literal) (number place : ℕ) →
-    IsConsistent old → number ≡ length old.places.items → place ≡ length old.table → new.table ≡ old.table ++ clause ∷ [] →
-    new.sources ≡ old.sources ++ given_as number ∷ [] → new.places.items ≡ old.places.items ++ place ∷ [] →
+    IsConsistent old → number ≡ length old.places → place ≡ length old.table → new.table ≡ old.table ++ clause ∷ [] →
+    new.sources ≡ old.sources ++ given_as number ∷ [] → new.places ≡ old.places ++ place ∷ [] →
     new.requirements.items ≡ old.requirements.items → IsLoaded given numbers old → IsLoaded (given ++ clause ∷ []) numbers new
 loaded-clause old new given numbers clause number place it first end table sources places requirements loaded = record {
   clauses = rw (table, sources, places, first, end)
-      (loaded-given given old.table old.sources old.places.items clause it.derived.count loaded.clauses);
+      (loaded-given given old.table old.sources old.places clause it.derived.count loaded.clauses);
   requirements = rw (requirements, places)
-      (loaded.requirements ∙ sym (places-push old.places.items numbers place (length given) (sym loaded.clauses.count) loaded.inside));
+      (loaded.requirements ∙ sym (places-push old.places numbers place (length given) (sym loaded.clauses.count) loaded.inside));
   inside = λ k d b. omega (arith, loaded.inside k d b, length-append given (clause ∷ []));
 }
 
--- the place that was read is the place of the clause
-pub read-place : (places : List ℕ) (number place : ℕ) → number < length places → place ≡ get_or places number place → place ≡ place_of places number
-read-place places number place inside read = get_or_read places number place inside read 0
-
 pub loaded-requirement : (old new : ClauseSearch) (given : List (List Literal)) (numbers : List ℕ) (requirement : StoredRequirement) (number : ℕ) →
-    number < length old.places.items → requirement.number ≡ place_of old.places.items number → new.table ≡ old.table →
-    new.sources ≡ old.sources → new.places.items ≡ old.places.items → new.requirements.items ≡ old.requirements.items ++ requirement ∷ [] →
+    number < length old.places → requirement.number ≡ place_of old.places number → new.table ≡ old.table →
+    new.sources ≡ old.sources → new.places ≡ old.places → new.requirements.items ≡ old.requirements.items ++ requirement ∷ [] →
     IsLoaded given numbers old → IsLoaded given (numbers ++ number ∷ []) new
 loaded-requirement old new given numbers requirement number inside here table sources places requirements loaded = record {
   clauses = rw (table, sources, places) loaded.clauses;
-  requirements = rw (requirements, places) (requirements-push old.requirements.items old.places.items numbers requirement number loaded.requirements here);
+  requirements = rw (requirements, places) (requirements-push old.requirements.items old.places numbers requirement number loaded.requirements here);
   inside = All-push (λ n. n < length given) numbers number loaded.inside (omega (arith, inside, loaded.clauses.count));
 }
 
@@ -344,7 +340,7 @@ same-trans a b c first second =
     }
 
 -- the clauses that were loaded are the first ones of a longer list
-pub clauses-begin : (it : ClauseSearch) (clauses given more : List (List Literal)) (numbers : List ℕ) (count : ℕ) → count ≡ length it.places.items →
+pub clauses-begin : (it : ClauseSearch) (clauses given more : List (List Literal)) (numbers : List ℕ) (count : ℕ) → count ≡ length it.places →
     IsLoaded given numbers it → clauses ≡ given ++ more → IsLoaded (take count clauses) numbers it
 clauses-begin it clauses given more numbers count end loaded is =
     let Loaded : List (List Literal) → Type 0 = λ cs. IsLoaded cs numbers it in
@@ -390,7 +386,7 @@ pub requirements-begin : (it : ClauseSearch) (given : List (List Literal)) (want
 requirements-begin it given wanted numbers more count end loaded is =
     let Loaded : List ℕ → Type 0 = λ ns. IsLoaded given ns it in
     let size : length it.requirements.items ≡ length numbers = sym (length-map it.requirements.items (λ (r : StoredRequirement). r.number)) ∙
-    ap length loaded.requirements ∙ length-map numbers (place_of it.places.items) in
+    ap length loaded.requirements ∙ length-map numbers (place_of it.places) in
     subst Loaded (sym (ap (take count) is ∙ take_at numbers more count (sym size ∙ sym end))) loaded
 
 pub requirements-next : (old new : ClauseSearch) (given : List (List Literal)) (requirements : List RequirementClause) (requirement : RequirementClause)

@@ -64,8 +64,8 @@ pub record AreLoaded (given table : List (List Literal)) (sources : List Source)
 -- The search was given these clauses, of which those with these numbers are requirement clauses. It decides exactly
 -- those, by their places.
 pub record IsLoaded (given : List (List Literal)) (numbers : List ℕ) (it : ClauseSearch) : Type 0 where
-  pub clauses : AreLoaded given it.table it.sources it.places.items
-  pub requirements : stored_places it.requirements.items ≡ map (place_of it.places.items) numbers
+  pub clauses : AreLoaded given it.table it.sources it.places
+  pub requirements : stored_places it.requirements.items ≡ map (place_of it.places) numbers
   pub inside : All (λ number. number < length given) numbers
 
 -- The first entries of the trail are held: their levels are not above the base, so they stay when the levels above it
@@ -83,8 +83,8 @@ pub record IsConsistent (it : ClauseSearch) : Type 0 where
   pub justified : IsJustified it.table it.trail
   pub chosen : AreChosen it.table it.requirements.items it.trail
   pub inside : All (λ (requirement : StoredRequirement). requirement.number < length it.table) it.requirements.items
-  pub places : All (λ place. place < length it.table) it.places.items
-  pub count : it.learnt + length it.places.items ≡ length it.table
+  pub places : All (λ place. place < length it.table) it.places
+  pub count : it.learnt + length it.places ≡ length it.table
   pub kept : it.kept ≤ length_of it.trail
   pub propagator : IsPropagator it.table it.trail it.propagator
   pub turn : IsTurn it.trail it.base it.held it.kept

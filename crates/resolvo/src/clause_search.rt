@@ -28,6 +28,7 @@ ghost use Rattle.resolvo.specs.Resolvents.{IsLearnt, level_in};
 use crate::analyze::{Analysis, BlankMarks, Learnt, analyze, asserted_level};
 use crate::clause_state::{State, examine};
 use crate::contradiction::core;
+use crate::places::Places;
 use crate::propagator::{Propagator, apply_all_pending, begins_level, propagate};
 use crate::sources::Sources;
 use resolver_clause_store::{
@@ -60,8 +61,7 @@ pub struct ClauseSearch {
     table: Clauses,
     sources: Sources,
     requirements: Vec<StoredRequirement>,
-    /// The place of each given clause, by its number.
-    places: Vec<u32>,
+    places: Places,
     learnt: usize,
     /// The number of first entries of the trail that have not changed since the trail was last bookmarked.
     kept: usize,
@@ -187,7 +187,7 @@ impl ClauseSearch {
             table: Clauses::new(alloc),
             sources: Sources::new(alloc),
             requirements: Vec::new(alloc),
-            places: Vec::new(alloc),
+            places: Places::new(alloc),
             learnt: 0,
             kept: 0,
             base: 0,
@@ -318,11 +318,11 @@ impl ClauseSearch {
         ensures loaded { OnOk result ((given : List (List Literal)) (numbers : List ℕ) →
             IsLoaded given numbers self.old → IsLoaded (given ++ literals.now ∷ []) numbers self.new) }
         ensures same { OnOk result (IsSameSearch self.old self.new) }
-        ensures count { OnOk result (length self.new.places.items ≡ length self.old.places.items + 1) }
+        ensures count { OnOk result (length self.new.places ≡ length self.old.places + 1) }
         ensures undone { OnOk result (IsFalsified (trail_of self.old) literals.now → IsUndone (trail_of self.old) (trail_of self.new) (base_of self.old)) }
     {
         let number = self.places.len();
-        let place = narrow(self.table.len())?;
+        let place = self.table.len();
         let level = level_for(&self.trail, literals, self.base);
         self.propagator.attach(&self.trail, literals)?;
         self.table.push(literals)?;
@@ -344,7 +344,7 @@ impl ClauseSearch {
         ensures loaded { OnOk result ((given : List (List Literal)) (numbers : List ℕ) (more : List (List Literal)) →
             IsLoaded given numbers self.old → clauses.now ≡ given ++ more → IsLoaded clauses.now numbers self.new) }
         ensures same { OnOk result (IsSameSearch self.old self.new) }
-        ensures count { OnOk result (length clauses.now ≤ length self.new.places.items) }
+        ensures count { OnOk result (length clauses.now ≤ length self.new.places) }
     {
         'clauses: for number in self.places.len()..clauses.len() {
             self.load_clause(clause(clauses, number))?;
@@ -359,15 +359,15 @@ impl ClauseSearch {
         union_ends: &UnionEnds,
     ) -> Result<(), AllocError>
         requires consistent { IsConsistent self.old }
-        requires inside { requirement.now.number < length self.old.places.items }
+        requires inside { requirement.now.number < length self.old.places }
         ensures consistent { OnOk result (IsConsistent self.new) }
         ensures loaded { OnOk result ((given : List (List Literal)) (numbers : List ℕ) → IsLoaded given numbers self.old →
             IsLoaded given (numbers ++ requirement.now.number ∷ []) self.new) }
         ensures same { OnOk result (IsSameSearch self.old self.new) }
-        ensures places { OnOk result (self.new.places.items ≡ self.old.places.items) }
+        ensures places { OnOk result (self.new.places ≡ self.old.places) }
         ensures count { OnOk result (length self.new.requirements.items ≡ length self.old.requirements.items + 1) }
     {
-        let place = self.places[requirement.number as usize];
+        let place = narrow(self.places.at(requirement.number as usize))?;
         self.queue.add(
             self.requirements.len(),
             clause(&self.table, place as usize),
@@ -387,7 +387,7 @@ impl ClauseSearch {
         union_ends: &UnionEnds,
     ) -> Result<(), AllocError>
         requires consistent { IsConsistent self.old }
-        requires inside { All (λ (requirement : RequirementClause). requirement.number < length self.old.places.items) requirements.now }
+        requires inside { All (λ (requirement : RequirementClause). requirement.number < length self.old.places) requirements.now }
         ensures consistent { OnOk result (IsConsistent self.new) }
         ensures loaded { OnOk result ((given : List (List Literal)) (numbers more : List ℕ) → IsLoaded given numbers self.old →
             numbers_of requirements.now ≡ numbers ++ more → IsLoaded given (numbers_of requirements.now) self.new) }

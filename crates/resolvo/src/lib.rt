@@ -10,9 +10,11 @@ mod contradiction;
 mod encoding_tests;
 mod minimal;
 mod owners;
+mod places;
 mod problem;
 mod propagator;
 mod rounds;
+mod runs;
 #[cfg(test)]
 mod scanning;
 mod solver;

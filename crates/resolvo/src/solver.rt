@@ -27,9 +27,9 @@ use crate::conflict::Conflict;
 use crate::problem::Problem;
 use crate::rounds::{Found, Rounds};
 use resolver_clause_store::{
-    Activity, Cache, ClauseKind, DependencyProvider, Exhausted, Interner, Interrupted,
+    Activity, Cache, DependencyProvider, Exhausted, Interner, Interrupted,
 };
-use resolver_encoding::rules_of_clauses;
+use resolver_encoding::{ClauseKinds, rules_of_clauses};
 use resolver_report::keep_reached;
 use std::alloc::Global;
 use std::mem::replace;
@@ -50,7 +50,7 @@ fn explain<D: DependencyProvider>(
     alloc: Global,
     provider: &D,
     cache: &mut Cache<D::NameId, D::SolvableId>,
-    kinds: &[ClauseKind<D::NameId, D::SolvableId>],
+    kinds: &ClauseKinds<D::NameId, D::SolvableId>,
     core: &[usize],
 ) -> Result<Conflict<D::NameId, D::SolvableId>, Interrupted<D::Cancel>>
     requires is_true { IsTrueCache (D.universe provider.now) cache.old }
@@ -189,7 +189,7 @@ impl<D: DependencyProvider> Solver<D> {
     /// Turns an unsatisfiable core into a conflict.
     fn refuse(
         &mut self,
-        kinds: &[ClauseKind<D::NameId, D::SolvableId>],
+        kinds: &ClauseKinds<D::NameId, D::SolvableId>,
         core: &[usize],
     ) -> UnsolvableOrCancelled<D>
         requires sound { IsSound (D.universe (provider_in self.old)) self.old }

@@ -19,8 +19,8 @@ use crate::choices::{Choices, choices_of};
 use crate::disjuncts::{disjuncts_of, is_met, without_repeats};
 use indexmap::IndexSet;
 use resolver_clause_store::{
-    By, Cache, ClauseKind, ConditionId, ConditionalRequirement, DependencyProvider, Exhausted,
-    Interner, Interrupted, Requirement, VersionSetId, is_among,
+    By, Cache, ClauseKind, ConditionId, ConditionalRequirement, DependencyProvider, Disjunct,
+    Exhausted, Interner, Interrupted, Requirement, VersionSetId, is_among,
 };
 use std::hash::Hash;
 use std::mem::replace;
@@ -67,7 +67,7 @@ impl<N: Copy + Eq + Hash + Drop, S: Copy + Eq + Hash + Drop> Encoding<N, S> {
         ensures is_true { IsTrueCache (D.universe provider.now) cache.new }
         ensures step { OnOk result (IsStep (D.universe provider.now) (IsTrueUnder (D.universe provider.now) by disjunct.items requirement) (notes_in self.old)
             (notes_in self.new)) }
-        ensures read { OnOk result (Contains (notes_in self.new).kinds (RequiresKind by disjunct requirement)) }
+        ensures read { OnOk result (Contains (notes_in self.new).kinds (RequiresKind by disjunct.items requirement)) }
         ensures adds { AddsOnly (λ o. IsHelped (D.universe provider.now) by disjunct.items o ⊎ IsCandidate (D.universe provider.now) requirement o)
             (notes_in self.old) (notes_in self.new) }
         ensures refusal { IfErr result (IsStop (D.may_cancel provider.now) (IsFull (notes_in self.new))) }
@@ -75,7 +75,7 @@ impl<N: Copy + Eq + Hash + Drop, S: Copy + Eq + Hash + Drop> Encoding<N, S> {
         self.help_each(provider, cache, &disjunct)?;
         let kind = ClauseKind::Requires {
             parent: by,
-            disjunct,
+            disjunct: Disjunct::new(disjunct),
             requirement,
         };
         self.add_with(kind, choices)?;

@@ -1,14 +1,14 @@
 //! Rules of small cores, worked out by hand.
 
-ghost use Rattle.std.specs.Prelude.{All, length, ◌<◌};
+ghost use Rattle.std.specs.Prelude.{All, OnOk, length, ◌<◌, ◌+◌, ◌≡◌};
 
 use crate::test_provider::TestProvider;
 use resolver_clause_store::{
     By, Cache, ClauseKind, Interrupted, Origin, Requirement, VersionSetId,
 };
-use resolver_encoding::rules_of_clauses;
+use resolver_encoding::{ClauseKinds, rules_of_clauses};
 use resolver_report::Rule;
-use std::alloc::Global;
+use std::alloc::{AllocError, Global};
 use std::cell::Cell;
 use std::test::Fail;
 
@@ -16,14 +16,26 @@ type Kind = ClauseKind<u32, u32>;
 
 const BOTH: Requirement = Requirement::Single(VersionSetId(20));
 
+/// Appends kinds to a list of kinds.
+fn add_all(kinds: &mut ClauseKinds<u32, u32>, more: Vec<Kind>) -> Result<(), AllocError>
+    ensures { OnOk result (length kinds.new ≡ length kinds.old + length more.items) }
+{
+    'kinds: for kind in more {
+        kinds.push(kind)?;
+    }
+    Ok(())
+}
+
 /// Returns the rules of a core over a provider that states nothing.
 fn rules_of(
     alloc: Global,
-    kinds: &[Kind],
+    list: Vec<Kind>,
     core: &[usize],
 ) -> Result<Vec<Rule<u32, u32>>, Interrupted<u8>>
-    requires { All (λ n. n < length kinds.now) core.now }
+    requires { All (λ n. n < length list.items) core.now }
 {
+    let mut kinds = ClauseKinds::new(alloc);
+    add_all(&mut kinds, list)?;
     let provider = TestProvider {
         alloc,
         requirements: Vec::new(alloc),
@@ -33,7 +45,7 @@ fn rules_of(
         endless: false,
     };
     let mut cache = Cache::new(alloc);
-    rules_of_clauses(alloc, &provider, &mut cache, kinds, core)
+    rules_of_clauses(alloc, &provider, &mut cache, &kinds, core)
 }
 
 /// Returns whether the rule is a requirement of both versions of package 2 without a condition.
@@ -115,13 +127,13 @@ fn has_bit(instance: u32, index: u32, value: bool) -> Kind {
 
 #[test]
 fn a_gate_stands_for_its_requirers_in_the_core(rt: HostRuntime) -> Result<(), Fail> {
-    let kinds = [
+    let kinds = vec![in rt.alloc();
         ClauseKind::InstallRoot,
         asks_through_gate(11),
         asks_through_gate(14),
         ClauseKind::GateRequires { requirement: BOTH },
-    ];
-    let rules = rules_of(rt.alloc(), &kinds, &[0, 2, 3])?;
+    ]?;
+    let rules = rules_of(rt.alloc(), kinds, &[0, 2, 3])?;
     assert_eq!(rt; rules.len(), 1);
     assert!(rt; is_required(rules.get(0), 14));
     Ok(())
@@ -129,24 +141,24 @@ fn a_gate_stands_for_its_requirers_in_the_core(rt: HostRuntime) -> Result<(), Fa
 
 #[test]
 fn a_gate_without_requirers_states_nothing(rt: HostRuntime) -> Result<(), Fail> {
-    let kinds = [
+    let kinds = vec![in rt.alloc();
         asks_through_gate(11),
         ClauseKind::GateRequires { requirement: BOTH },
-    ];
-    let rules = rules_of(rt.alloc(), &kinds, &[1])?;
+    ]?;
+    let rules = rules_of(rt.alloc(), kinds, &[1])?;
     assert_eq!(rt; rules.len(), 0);
     Ok(())
 }
 
 #[test]
 fn each_parent_excludes_each_candidate(rt: HostRuntime) -> Result<(), Fail> {
-    let kinds = [
+    let kinds = vec![in rt.alloc();
         constrains_through_helper(By::Root),
         excludes(21),
         constrains_through_helper(By::Solvable(11)),
         excludes(24),
-    ];
-    let rules = rules_of(rt.alloc(), &kinds, &[0, 1, 2, 3])?;
+    ]?;
+    let rules = rules_of(rt.alloc(), kinds, &[0, 1, 2, 3])?;
     assert_eq!(rt; rules.len(), 4);
     assert!(rt; is_constrained(rules.get(0), By::Root, 29, 21));
     assert!(rt; is_constrained(rules.get(1), By::Root, 29, 24));
@@ -157,13 +169,13 @@ fn each_parent_excludes_each_candidate(rt: HostRuntime) -> Result<(), Fail> {
 
 #[test]
 fn an_instance_is_marked_once(rt: HostRuntime) -> Result<(), Fail> {
-    let kinds = [
+    let kinds = vec![in rt.alloc();
         has_bit(21, 0, true),
         has_bit(24, 0, false),
         has_bit(21, 1, true),
         has_bit(24, 1, true),
-    ];
-    let rules = rules_of(rt.alloc(), &kinds, &[0, 1, 2, 3])?;
+    ]?;
+    let rules = rules_of(rt.alloc(), kinds, &[0, 1, 2, 3])?;
     assert_eq!(rt; rules.len(), 2);
     assert!(rt; is_marked(rules.get(0), 21));
     assert!(rt; is_marked(rules.get(1), 24));

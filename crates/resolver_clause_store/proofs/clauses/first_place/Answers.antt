@@ -1,4 +1,4 @@
-use Rattle.std.proofs.Common.{sym, ap, ◌∙◌, ◌∷◌, arith, get_or}
+use Rattle.std.proofs.Common.{sym, ap, ◌∷◌, arith, get_or}
 use Rattle.resolver_clause_store.proofs.ClauseLists.{begins-later}
 use Rattle.resolver_clause_store.proofs.clauses.first_place.Goals as goal
 

@@ -18,7 +18,7 @@ returns-in_ok-add_requirement-in-Requires-clause-added g c =
     let Of : List VersionSetId → Type 0 =
     λ list. AddsRules (λ st. st ≡ requires c.in-Requires.parent c.in-Requires.requirement (requirement_candidates u c.in-Requires.requirement)
     (map (matching u) list)) c.args.listing.now c.add_requirement.new.listing in
-    subst Adds (sym c.in-Requires.is) (subst Of c.deref.ensures.value c.in_ok-add_requirement-in-Requires.ensures.added)
+    subst Adds (sym c.in-Requires.is) (subst Of c.as_slice-disjunct.ensures c.in_ok-add_requirement-in-Requires.ensures.added)
 
 pub returns-in_ok-add_gate-in-GateRequires-clause-added : goal.returns-in_ok-add_gate-in-GateRequires-clause-added
 returns-in_ok-add_gate-in-GateRequires-clause-added g c =

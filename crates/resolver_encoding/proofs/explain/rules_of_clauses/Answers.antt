@@ -1,4 +1,4 @@
-use Rattle.std.proofs.Common.{◌∙◌, ℕ, Bool, List, arith, rules, sym, subst, ap, take}
+use Rattle.std.proofs.Common.{refl, ℕ, Bool, List, arith, rules, sym, subst, ap, take}
 use Rattle.std.specs.Prelude.{slice_index_or}
 use Rattle.std.proofs.lemmas.List.{get_or_default, take_all}
 use Rattle.resolver_clause_store.specs.Laws.{IsIdentity}
@@ -12,12 +12,6 @@ use Rattle.resolver_encoding.proofs.SourceLemmas.{kinds_next}
 use Rattle.resolver_encoding.proofs.StatedLemmas.{all_listed, all_stated}
 use Rattle.resolver_encoding.proofs.explain.rules_of_clauses.Goals as goal
 
-pub offset_bounds-kinds-number : goal.offset_bounds-kinds-number
-offset_bounds-kinds-number g c = let below = c.requires.within c.loop-number.number-index 0 (search rules) in omega (arith, below)
-
-pub bounds-kinds-number : goal.bounds-kinds-number
-bounds-kinds-number g c = c.requires.within c.loop-number.number-index 0 (search rules)
-
 pub loop-number-init : goal.loop-number-init
 loop-number-init g c = record {
   is_true = c.requires.is_true;
@@ -30,17 +24,16 @@ loop-number-preserved g c =
     let u = g.D.Interner.universe c.args.provider.now in
     let i = c.loop-number.number-index in
     let n = slice_index_or c.args.numbers.now i 0 in
-    let k = c.index-kinds-number.result in
+    let k = slice_index_or c.args.kinds.now n InstallRoot in
     let says = States u c.in_ok-sources.sources in
-    let adds = c.in_ok-add_stated.ensures.added in
+    let adds = c.in_ok-add_clause.ensures.added in
     let Are : List (ClauseKind g.row.D-NameId.Denot g.row.D-SolvableId.Denot) → Type 0 =
-    λ ks. AreRulesOf (SomeOf ks says) c.add_stated.new.listing.rules.items in
+    λ ks. AreRulesOf (SomeOf ks says) c.add_clause.new.listing.rules.items in
     record {
-      is_true = c.in_ok-add_stated.ensures.is_true;
+      is_true = c.in_ok-add_clause.ensures.is_true;
       instances = adds.instances;
-      rules = subst Are (sym (kinds_next c.args.kinds.now c.args.numbers.now i n k (search rules) (get_or_default c.args.numbers.now i 0 n (search rules))
-          (c.index-kinds-number.is ∙ get_or_default c.args.kinds.now n k InstallRoot (c.requires.within i 0 (search rules)))))
-          (rules_next c.loop-number.listing c.add_stated.new.listing
+      rules = subst Are (sym (kinds_next c.args.kinds.now c.args.numbers.now i n k (search rules) (get_or_default c.args.numbers.now i 0 n (search rules)) refl))
+          (rules_next c.loop-number.listing c.add_clause.new.listing
           (kinds_at c.args.kinds.now (take i c.args.numbers.now)) k says c.loop-number.invariant.rules adds);
     }
 

@@ -1,5 +1,5 @@
 use Rattle.std.proofs.Common.{◌≡◌, ◌+◌, ◌-◌, ℕ, length}
-use Rattle.resolver_clause_store.specs.Queues.{list_of}
+use Rattle.resolver_clause_store.specs.NumberedLists.{list_of}
 use Rattle.resolver_clause_store.proofs.lists.Lists.reach.Given as goal
 
 abbrev pub invariant-lists : goal.invariant-lists

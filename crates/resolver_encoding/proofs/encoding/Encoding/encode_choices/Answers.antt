@@ -4,12 +4,12 @@ use Rattle.std.proofs.lemmas.List.Elements.{All-contains}
 use Rattle.resolver_clause_store.specs.Candidates.{version_sets}
 use Rattle.resolver_clause_store.specs.declared.VersionSetId.{VersionSetId}
 use Rattle.resolver_clause_store.specs.declared.ClauseKind.TheVariants.{Requires}
-use Rattle.resolver_encoding.specs.Encodings.{IsTrueUnder, idle}
+use Rattle.resolver_encoding.specs.Encodings.{AddsKind, IsTrueUnder, idle}
 use Rattle.resolver_encoding.specs.Notes.{notes_in}
 use Rattle.resolver_encoding.proofs.EncodingLemmas.{IsStep-trans, IsStep-weaker, clause_listed}
 use Rattle.resolver_encoding.proofs.NoteLemmas.{IsStep-kind}
 use Rattle.resolver_encoding.proofs.LedLemmas.{AddsOnly-trans, AddsOnly-weaker, helped_choices}
-use Rattle.resolver_encoding.proofs.TableLemmas.{requirement_mentions}
+use Rattle.resolver_encoding.proofs.TableLemmas.{equal_mentions}
 use Rattle.resolver_encoding.proofs.encoding.Encoding.encode_choices.Goals as goal
 
 pub returns-clause-step : goal.returns-clause-step
@@ -17,16 +17,17 @@ returns-clause-step g c =
     let u = g.D.Interner.universe c.args.provider.now in
     let r = c.args.requirement in
     let by = c.args.by in
-    let list = c.args.disjunct in
-    let Premise = IsTrueUnder u by list.items r in
+    let list = c.args.disjunct.items in
+    let Premise = IsTrueUnder u by list r in
     let mid = notes_in c.help_each.new.self in
-    let adds = c.in_ok-add_with.ensures.added u c.requires.candidates in
+    let Adds : List VersionSetId → Type 0 = λ d. AddsKind u (Requires by d r) mid (notes_in c.add_with.new.self) in
+    let adds = subst Adds c.new.ensures (c.in_ok-add_with.ensures.added u c.requires.candidates) in
     let grown = c.in_ok-help_each.ensures.step in
     let AllHelped : List VersionSetId → Type 0 = λ list. All (Contains mid.helped) list in
     let helped = subst AllHelped c.deref.ensures.value c.in_ok-help_each.ensures.helped in
     IsStep-trans u idle Premise _ _ _ (IsStep-weaker u idle (λ root. ⊤) Premise (λ root _. tt) _ _ grown)
     (IsStep-kind u idle Premise mid (notes_in c.add_with.new.self) (Requires by list r) adds (λ root asks before codes _. asks) tt tt (record {
-      helpers = λ v h. All-contains (Contains mid.helped) list.items v helped h;
+      helpers = λ v h. All-contains (Contains mid.helped) list v helped h;
       packages = λ v h. let Has : List g.row.N.Denot → Type 0 = λ names. Contains names (u.version_set_name v) in
           subst Has (sym grown.asked) (All-contains (λ w. Contains (notes_in c.args.self.now).asked (u.version_set_name w))
           (version_sets u r) v c.requires.asked h);
@@ -39,7 +40,9 @@ returns-clause-step g c =
 pub returns-clause-read : goal.returns-clause-read
 returns-clause-read g c =
     let u = g.D.Interner.universe c.args.provider.now in
-    clause_listed u (notes_in c.help_each.new.self) (notes_in c.add_with.new.self) _ (c.in_ok-add_with.ensures.added u c.requires.candidates)
+    let Listed : List VersionSetId → Type 0 = λ d. Contains (notes_in c.add_with.new.self).kinds (Requires c.args.by d c.args.requirement) in
+    subst Listed c.new.ensures
+    (clause_listed u (notes_in c.help_each.new.self) (notes_in c.add_with.new.self) _ (c.in_ok-add_with.ensures.added u c.requires.candidates))
 
 pub returns-in_err-help_each-clause-adds : goal.returns-in_err-help_each-clause-adds
 returns-in_err-help_each-clause-adds g c =
@@ -51,11 +54,11 @@ returns-in_err-add_with-clause-adds g c =
     let u = g.D.Interner.universe c.args.provider.now in
     AddsOnly-trans _ _ _ _ (helped_choices u c.args.by c.args.requirement c.args.disjunct.items c.deref.result.now c.deref.ensures.value
     (notes_in c.args.self.now) (notes_in c.help_each.new.self) c.help_each.ensures.adds)
-    (AddsOnly-weaker _ _ (requirement_mentions u c.args.by c.args.disjunct c.args.requirement) _ _ (c.add_with.ensures.adds u c.requires.candidates))
+    (AddsOnly-weaker _ _ (equal_mentions u c.args.by c.new.result c.args.disjunct.items c.args.requirement c.new.ensures) _ _ (c.add_with.ensures.adds u c.requires.candidates))
 
 pub returns-clause-adds : goal.returns-clause-adds
 returns-clause-adds g c =
     let u = g.D.Interner.universe c.args.provider.now in
     AddsOnly-trans _ _ _ _ (helped_choices u c.args.by c.args.requirement c.args.disjunct.items c.deref.result.now c.deref.ensures.value
     (notes_in c.args.self.now) (notes_in c.help_each.new.self) c.help_each.ensures.adds)
-    (AddsOnly-weaker _ _ (requirement_mentions u c.args.by c.args.disjunct c.args.requirement) _ _ (c.add_with.ensures.adds u c.requires.candidates))
+    (AddsOnly-weaker _ _ (equal_mentions u c.args.by c.new.result c.args.disjunct.items c.args.requirement c.new.ensures) _ _ (c.add_with.ensures.adds u c.requires.candidates))

@@ -19,7 +19,7 @@ returns-clause-step g c =
     (IsAskStep-of u Called Premise _ _ c.in_ok-encode_choices.ensures.step)
 
 pub returns-clause-read : goal.returns-clause-read
-returns-clause-read g c = has_direct c.args.disjunct refl c.in_ok-encode_choices.ensures.read
+returns-clause-read g c = has_direct c.args.disjunct.items refl c.in_ok-encode_choices.ensures.read
 
 pub returns-in_err-choices-clause-brings : goal.returns-in_err-choices-clause-brings
 returns-in_err-choices-clause-brings g c = λ root before.

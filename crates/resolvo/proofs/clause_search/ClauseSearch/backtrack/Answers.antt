@@ -70,7 +70,7 @@ returns-clause-same c =
     record {
       loaded = λ given numbers loaded. record {
         clauses = rw (c.in_ok-push.ensures.items, c.deref-3.ensures.value, c.in_ok-push_learnt.ensures.added)
-            (loaded-learnt given old.table old.sources old.places.items c.args.learnt.literals.items _ it.derived.count refl loaded.clauses);
+            (loaded-learnt given old.table old.sources old.places c.args.learnt.literals.items _ it.derived.count refl loaded.clauses);
         requirements = loaded.requirements;
         inside = loaded.inside;
       };

@@ -10,13 +10,13 @@ use Rattle.resolvo.proofs.clause_search.ClauseSearch.load_clause.Goals as goal
 
 pub returns-clause-consistent : goal.returns-clause-consistent
 returns-clause-consistent c =
-    let end : c.in_ok-place.place ≡ length c.args.self.now.table = search rules in
+    let end : c.len-place.result ≡ length c.args.self.now.table = search rules in
     let table = c.args.self.now.table in
     let longer = c.in_ok-attach.ensures.propagator table c.requires.consistent.propagator in
     let propagates : IsPropagator c.push.new.self c.undo_until.new.self c.cut.new.self =
     rw c.in_ok-push.ensures.items (c.in_ok-cut.ensures.propagator _ _ (lower-undone _ _ _ c.undo_until.ensures) longer) in
     consistent-given c.args.self.now _ c.args.literals.now _ _ _ c.requires.consistent
-    c.requires.below end c.in_ok-push.ensures.items c.in_ok-push_given.ensures c.in_ok-push-2.ensures.items refl
+    c.requires.below end c.in_ok-push.ensures.items c.in_ok-push_given.ensures.added c.in_ok-push-2.ensures.added refl
     c.undo_until.ensures c.level_for-level.ensures.low refl (c.min-self.ensures ∙ ap (min c.args.self.now.kept) c.len-left.ensures) refl refl propagates
     (queued-left c.args.self.now.queue c.cut-2.new.self c.args.self.now.trail c.undo_until.new.self c.args.self.now.table
     c.args.self.now.requirements.items c.len-left.result (length_of c.undo_until.new.self) c.cut-2.ensures
@@ -25,10 +25,10 @@ returns-clause-consistent c =
 
 pub returns-clause-loaded : goal.returns-clause-loaded
 returns-clause-loaded c = λ given numbers loaded.
-    let first : c.len-number.result ≡ length c.args.self.now.places.items = search rules in
-    let end : c.in_ok-place.place ≡ length c.args.self.now.table = search rules in
+    let first : c.len-number.result ≡ length c.args.self.now.places = search rules in
+    let end : c.len-place.result ≡ length c.args.self.now.table = search rules in
     loaded-clause c.args.self.now _ given numbers c.args.literals.now _ _ c.requires.consistent first end
-    c.in_ok-push.ensures.items c.in_ok-push_given.ensures c.in_ok-push-2.ensures.items refl loaded
+    c.in_ok-push.ensures.items c.in_ok-push_given.ensures.added c.in_ok-push-2.ensures.added refl loaded
 
 pub returns-clause-same : goal.returns-clause-same
 returns-clause-same c = same-undone c.args.self.now _ _ c.requires.consistent c.undo_until.ensures c.level_for-level.ensures.low refl
@@ -48,11 +48,18 @@ attach-requires-clause-lists c = c.requires.consistent.propagator.lists
 pub invariant_of-self : goal.invariant_of-self
 invariant_of-self c = record { in_lists = in_lists-kept _ _ _ _ c.requires.consistent.propagator c.attach.ensures.kept }
 
-pub invariant_of-self-in-Break-branch-3 : goal.invariant_of-self-in-Break-branch-3
-invariant_of-self-in-Break-branch-3 c =
+pub invariant_of-self-in-Break-branch-2 : goal.invariant_of-self-in-Break-branch-2
+invariant_of-self-in-Break-branch-2 c =
     record {
       in_lists = in_lists-equal _ _ _ _ c.in_err-push.ensures.unchanged refl
           (in_lists-kept _ _ _ _ c.requires.consistent.propagator c.attach.ensures.kept);
+    }
+
+pub invariant_of-self-in-Break-branch-3 : goal.invariant_of-self-in-Break-branch-3
+invariant_of-self-in-Break-branch-3 c =
+    record {
+      in_lists = in_lists-equal _ _ _ _ c.in_ok-push.ensures.items refl
+          (in_lists-added _ c.args.literals.now _ _ _ c.requires.consistent.propagator c.attach.ensures.kept c.in_ok-attach.ensures.own);
     }
 
 pub invariant_of-self-in-Break-branch-4 : goal.invariant_of-self-in-Break-branch-4
@@ -64,13 +71,6 @@ invariant_of-self-in-Break-branch-4 c =
 
 pub invariant_of-self-in-Break-branch-5 : goal.invariant_of-self-in-Break-branch-5
 invariant_of-self-in-Break-branch-5 c =
-    record {
-      in_lists = in_lists-equal _ _ _ _ c.in_ok-push.ensures.items refl
-          (in_lists-added _ c.args.literals.now _ _ _ c.requires.consistent.propagator c.attach.ensures.kept c.in_ok-attach.ensures.own);
-    }
-
-pub invariant_of-self-in-Break-branch-6 : goal.invariant_of-self-in-Break-branch-6
-invariant_of-self-in-Break-branch-6 c =
     record {
       in_lists = in_lists-equal _ _ _ _ c.in_ok-push.ensures.items c.cut.ensures.watches
           (in_lists-added _ c.args.literals.now _ _ _ c.requires.consistent.propagator c.attach.ensures.kept c.in_ok-attach.ensures.own);

@@ -4,7 +4,7 @@ use Rattle.resolvo.proofs.clause_search.ClauseSearch.load_clauses.Goals as goal
 
 pub clauses-init : goal.clauses-init
 clauses-init c =
-    let end : c.len-number.result ≡ length c.args.self.now.places.items = search rules in
+    let end : c.len-number.result ≡ length c.args.self.now.places = search rules in
     record {
       consistent = c.requires.consistent;
       same = same-none _;

@@ -7,7 +7,7 @@ abbrev pub invariant-clauses : goal.invariant-clauses
 invariant-clauses l = record {
   consistent : IsConsistent l.self;
   same : IsSameSearch l.initial.self l.self;
-  count : length l.self.places.items ≡ l.number;
+  count : length l.self.places ≡ l.number;
   loaded : (given : List (List Literal)) (numbers : List ℕ) (more : List (List Literal)) → IsLoaded given numbers l.initial.self →
       l.clauses ≡ given ++ more → IsLoaded (take l.number l.clauses) numbers l.self;
 }

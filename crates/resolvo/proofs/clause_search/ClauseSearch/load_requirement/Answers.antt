@@ -1,13 +1,15 @@
-use Rattle.std.proofs.Common.{rules, refl, sym, subst, ◌≡◌, ◌<◌, ℕ, length}
-use Rattle.resolvo.proofs.LoadLemmas.{consistent-requirement, loaded-requirement, read-place}
+use Rattle.std.proofs.Common.{rules, refl, sym, subst, ◌≡◌, ◌<◌, ◌∙◌, ℕ, length}
+use Rattle.resolvo.specs.ClauseSearches.{place_of}
+use Rattle.resolvo.proofs.LoadLemmas.{consistent-requirement, loaded-requirement}
 use Rattle.resolvo.proofs.clause_search.ClauseSearch.load_requirement.Goals as goal
 
 pub returns-clause-consistent : goal.returns-clause-consistent
 returns-clause-consistent c =
     let it = c.args.self.now in
     let Inside : ℕ → Type 0 = λ n. n < length it.table in
-    let inside = subst Inside (sym c.index-place.ensures)
-    (c.requires.consistent.places c.args.requirement.now.number c.index-place.result.now c.requires.inside) in
+    let place : c.in_ok-place.place ≡ place_of it.places c.args.requirement.now.number = c.in_ok-place.ensures ∙ c.at.ensures in
+    let inside = subst Inside (sym place)
+    (c.requires.consistent.places c.args.requirement.now.number 0 c.requires.inside) in
     let here : c.len.result ≡ length it.requirements.items = search rules in
     consistent-requirement it _ _ _ _ c.requires.consistent inside c.in_ok-push.ensures.items
     (c.in_ok-add.ensures it.trail it.table it.requirements.items _ here c.requires.consistent.queued)
@@ -15,4 +17,4 @@ returns-clause-consistent c =
 pub returns-clause-loaded : goal.returns-clause-loaded
 returns-clause-loaded c = λ given numbers loaded.
     loaded-requirement c.args.self.now _ given numbers _ _ c.requires.inside
-    (read-place _ _ _ c.requires.inside c.index-place.ensures) refl refl refl c.in_ok-push.ensures.items loaded
+    (c.in_ok-place.ensures ∙ c.at.ensures) refl refl refl c.in_ok-push.ensures.items loaded

@@ -18,7 +18,7 @@ requirements-init c =
 pub load_requirement-requires-clause-inside : goal.load_requirement-requires-clause-inside
 load_requirement-requires-clause-inside c =
     let none : RequirementClause = record { number = 0; of_root = false; is_union = false } in
-    let same : length c.requirements.self.places.items ≡ length c.args.self.now.places.items = ap length c.requirements.invariant.places in
+    let same : length c.requirements.self.places ≡ length c.args.self.now.places = ap length c.requirements.invariant.places in
     rw same (c.requires.inside c.requirements.index none c.requirements-test.true)
 
 pub requirements-preserved : goal.requirements-preserved

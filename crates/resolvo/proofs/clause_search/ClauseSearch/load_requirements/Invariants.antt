@@ -7,7 +7,7 @@ abbrev pub invariant-requirements : goal.invariant-requirements
 invariant-requirements l = record {
   consistent : IsConsistent l.self;
   same : IsSameSearch l.initial.self l.self;
-  places : l.self.places.items ≡ l.initial.self.places.items;
+  places : l.self.places ≡ l.initial.self.places;
   count : length l.self.requirements.items ≡ l.index;
   loaded : (given : List (List Literal)) (numbers more : List ℕ) → IsLoaded given numbers l.initial.self → numbers_of l.requirements ≡ numbers ++ more →
       IsLoaded given (take l.index (numbers_of l.requirements)) l.self;

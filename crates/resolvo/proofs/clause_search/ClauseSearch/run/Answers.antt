@@ -14,7 +14,7 @@ returns-in-None-clause-outcome g c = λ given numbers before requirements are.
     let met = rw (c.in-None.is, wanted) at c.in_ok-descend.ensures.met in
     let justified = c.in_ok-descend.ensures.justified in
     let chosen = rw wanted at c.in_ok-descend.ensures.chosen in
-    finished_for given found.table found.sources found.places.items found.requirements.items requirements numbers c.descend.new.trail are it.derived
+    finished_for given found.table found.sources found.places found.requirements.items requirements numbers c.descend.new.trail are it.derived
     justified chosen loaded.clauses loaded.requirements loaded.inside settled met
 
 pub returns-in-None-clause-consistent : goal.returns-in-None-clause-consistent

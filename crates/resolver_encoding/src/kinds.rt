@@ -1,0 +1,238 @@
+//! The kinds of clauses, as they are stored.
+
+ghost use Rattle.std.specs.Prelude.{◌<◌, ◌≡◌, ◌++◌, ◌∷◌, [], IfOk, OnErr, OnOk, length, slice_index_or, take};
+ghost use Rattle.resolver_clause_store.specs.declared.ClauseKind.TheVariants.{InstallRoot, Requires};
+ghost use Rattle.resolver_encoding.specs.Kinds.{IsStored, Stores, kind_in};
+ghost use Rattle.resolver_encoding.specs.declared.kinds.StoredKind.TheVariants.{Conditional};
+
+use resolver_clause_store::{
+    By, ClauseKind, Disjunct, Origin, Requirement, StringId, VersionSetId, narrow,
+};
+use std::alloc::{AllocError, Global};
+use std::marker::Model;
+
+/// A requirement clause that depends on a condition.
+#[derive(Drop)]
+pub struct ConditionalClause<S> {
+    parent: By<S>,
+    disjunct: Disjunct,
+    requirement: Requirement,
+}
+
+/// The kind of a clause, as it is stored.
+///
+/// Few clauses depend on a condition. They are in a list of their own, so the others have no room for a disjunct.
+#[derive(Clone, Copy)]
+pub enum StoredKind<N, S> {
+    InstallRoot,
+    /// The requirer and the requirement.
+    Requires(By<S>, Requirement),
+    /// The conditional clause at this place of their list.
+    Conditional(u32),
+    /// The helper and the candidate.
+    AnyOf(Origin<N, S>, S),
+    /// The requirer, the version set and the candidate.
+    Constrains(By<S>, VersionSetId, S),
+    GateRequires(Requirement),
+    /// The candidate and the version set.
+    ConstrainsExcluded(S, VersionSetId),
+    /// The requirer and the version set.
+    ConstrainsParent(By<S>, VersionSetId),
+    /// The package, the instance, the bit's index and its value.
+    HasBit(N, S, u32, bool),
+    /// The locked solvable and the forbidden one.
+    Lock(S, S),
+    /// The solvable and the reason.
+    Excluded(S, StringId),
+}
+
+/// Returns the stored kind of a requirement clause. A clause that depends on a condition is added to the list of those.
+fn stored_requirement<N, S: Drop>(
+    conditional: &mut Vec<ConditionalClause<S>>,
+    clause: ConditionalClause<S>,
+) -> Result<StoredKind<N, S>, AllocError>
+    ensures stores { IfOk result (λ stored.
+        Stores conditional.old.items conditional.new.items stored (Requires clause.parent clause.disjunct clause.requirement)) }
+    ensures unchanged { OnErr result (conditional.new.items ≡ conditional.old.items) }
+{
+    if clause.disjunct.as_slice().is_empty() {
+        return Ok(StoredKind::Requires(clause.parent, clause.requirement));
+    }
+    let place = narrow(conditional.len())?;
+    conditional.push(clause)?;
+    Ok(StoredKind::Conditional(place))
+}
+
+/// Returns a kind as it is stored. A clause that depends on a condition is added to the list of those.
+fn stored_of<N, S: Drop>(
+    conditional: &mut Vec<ConditionalClause<S>>,
+    kind: ClauseKind<N, S>,
+) -> Result<StoredKind<N, S>, AllocError>
+    ensures stores { IfOk result (λ stored. Stores conditional.old.items conditional.new.items stored kind) }
+    ensures unchanged { OnErr result (conditional.new.items ≡ conditional.old.items) }
+{
+    let stored = match kind {
+        ClauseKind::InstallRoot => StoredKind::InstallRoot,
+        ClauseKind::Requires {
+            parent,
+            disjunct,
+            requirement,
+        } => {
+            let clause = ConditionalClause {
+                parent,
+                disjunct,
+                requirement,
+            };
+            let stored = stored_requirement(conditional, clause)?;
+            return Ok(stored);
+        }
+        ClauseKind::AnyOf { helper, candidate } => StoredKind::AnyOf(helper, candidate),
+        ClauseKind::Constrains {
+            parent,
+            version_set,
+            candidate,
+        } => StoredKind::Constrains(parent, version_set, candidate),
+        ClauseKind::GateRequires { requirement } => StoredKind::GateRequires(requirement),
+        ClauseKind::ConstrainsExcluded {
+            candidate,
+            version_set,
+        } => StoredKind::ConstrainsExcluded(candidate, version_set),
+        ClauseKind::ConstrainsParent {
+            parent,
+            version_set,
+        } => StoredKind::ConstrainsParent(parent, version_set),
+        ClauseKind::HasBit {
+            name,
+            instance,
+            index,
+            value,
+        } => StoredKind::HasBit(name, instance, index, value),
+        ClauseKind::Lock { locked, forbidden } => StoredKind::Lock(locked, forbidden),
+        ClauseKind::Excluded { solvable, reason } => StoredKind::Excluded(solvable, reason),
+    };
+    Ok(stored)
+}
+
+/// Returns the kind of a conditional clause.
+fn kind_of<N, S: Copy>(
+    alloc: Global,
+    clause: &ConditionalClause<S>,
+) -> Result<ClauseKind<N, S>, AllocError>
+    ensures { IfOk result (λ kind. kind ≡ Requires clause.now.parent clause.now.disjunct clause.now.requirement) }
+{
+    let disjunct = clause.disjunct.copy(alloc)?;
+    Ok(ClauseKind::Requires {
+        parent: clause.parent,
+        disjunct,
+        requirement: clause.requirement,
+    })
+}
+
+/// Returns a stored kind.
+fn read<N: Copy, S: Copy>(
+    alloc: Global,
+    conditional: &[ConditionalClause<S>],
+    stored: StoredKind<N, S>,
+) -> Result<ClauseKind<N, S>, AllocError>
+    requires { IsStored (length conditional.now) stored }
+    ensures { IfOk result (λ kind. kind ≡ kind_in conditional.now stored) }
+{
+    let kind = match stored {
+        StoredKind::InstallRoot => ClauseKind::InstallRoot,
+        StoredKind::Requires(parent, requirement) => ClauseKind::Requires {
+            parent,
+            disjunct: Disjunct::empty(alloc),
+            requirement,
+        },
+        StoredKind::Conditional(place) => return kind_of(alloc, &conditional[place as usize]),
+        StoredKind::AnyOf(helper, candidate) => ClauseKind::AnyOf { helper, candidate },
+        StoredKind::Constrains(parent, version_set, candidate) => ClauseKind::Constrains {
+            parent,
+            version_set,
+            candidate,
+        },
+        StoredKind::GateRequires(requirement) => ClauseKind::GateRequires { requirement },
+        StoredKind::ConstrainsExcluded(candidate, version_set) => ClauseKind::ConstrainsExcluded {
+            candidate,
+            version_set,
+        },
+        StoredKind::ConstrainsParent(parent, version_set) => ClauseKind::ConstrainsParent {
+            parent,
+            version_set,
+        },
+        StoredKind::HasBit(name, instance, index, value) => ClauseKind::HasBit {
+            name,
+            instance,
+            index,
+            value,
+        },
+        StoredKind::Lock(locked, forbidden) => ClauseKind::Lock { locked, forbidden },
+        StoredKind::Excluded(solvable, reason) => ClauseKind::Excluded { solvable, reason },
+    };
+    Ok(kind)
+}
+
+/// The kinds of clauses by number. In contracts, they are the list of the kinds.
+#[derive(Drop)]
+pub struct ClauseKinds<N, S> {
+    stored: Vec<StoredKind<N, S>>,
+    /// The clauses that depend on a condition.
+    conditional: Vec<ConditionalClause<S>>,
+}
+
+impl<N, S> Model for ClauseKinds<N, S> {
+    ghost use Rattle.std.specs.Prelude.{List, All, length, map};
+    ghost use Rattle.resolver_clause_store.specs.declared.ClauseKind.{ClauseKind};
+    ghost use Rattle.resolver_encoding.specs.Kinds.{IsStored, kind_in};
+
+    ghost Value = { List (ClauseKind N S) };
+
+    ghost view = { λ k. map (kind_in k.conditional.items) k.stored.items };
+
+    ghost invariant = { λ k. All (IsStored (length k.conditional.items)) k.stored.items };
+}
+
+impl<N: Copy + Drop, S: Copy + Drop> ClauseKinds<N, S> {
+    /// Returns no kinds.
+    pub fn new(alloc: Global) -> Self
+        ensures { result ≡ [] }
+    {
+        ClauseKinds {
+            stored: Vec::new(alloc),
+            conditional: Vec::new(alloc),
+        }
+    }
+
+    /// Returns the number of clauses.
+    pub fn len(&self) -> usize
+        ensures { result ≡ length self.now }
+    {
+        self.stored.len()
+    }
+
+    /// Appends the kind of a new clause. An error changes nothing.
+    pub fn push(&mut self, kind: ClauseKind<N, S>) -> Result<(), AllocError>
+        ensures kinds { OnOk result (self.new ≡ self.old ++ kind ∷ []) }
+        ensures unchanged { OnErr result (self.new ≡ self.old) }
+    {
+        let stored = stored_of(&mut self.conditional, kind)?;
+        self.stored.push(stored)?;
+        Ok(())
+    }
+
+    /// Removes all kinds but the first `count` ones.
+    pub fn truncate(&mut self, count: usize)
+        ensures { self.new ≡ take count self.old }
+    {
+        self.stored.truncate(count);
+    }
+
+    /// Returns the kind of the clause with this number.
+    pub fn at(&self, alloc: Global, number: usize) -> Result<ClauseKind<N, S>, AllocError>
+        requires { number < length self.now }
+        ensures { IfOk result (λ kind. kind ≡ slice_index_or self.now number InstallRoot) }
+    {
+        let kind = read(alloc, &self.conditional, self.stored[number])?;
+        Ok(kind)
+    }
+}

@@ -1,0 +1,43 @@
+-- Lists that are stored as runs.
+use Rattle.std.specs.Prelude.{◌≡◌, ℕ, ◌+◌, ◌-◌, ◌^◌, ◌<◌, ◌≤◌, nat_le, if◌then◌else◌, Option, Some, None, length, slice_index_or, List, [], ◌∷◌, map, All}
+use Rattle.std.specs.List.{range_with_len}
+use Rattle.std.specs.List.Sorted.{IsNonDecreasingBy}
+use Rattle.resolvo.specs.declared.runs.Run.{Run}
+
+-- the run that has the entry with this index: the last one that does not begin after it, or else the one before these runs
+abbrev pub run_at : {T : Type 0} → Run T → List (Run T) → ℕ → Run T
+run_at before [] index = before
+run_at before (run ∷ runs) index = run_at (if nat_le run.first index then run else before) runs index
+
+-- an entry of a run, as the run's first entry and the number of steps from there
+abbrev pub entry_in : {T : Type 0} → Run T → ℕ → T × ℕ
+entry_in run index = (run.entry, index - run.first)
+
+-- as many entries of these runs
+abbrev pub entries_of : {T : Type 0} → List (Run T) → ℕ → List (T × ℕ)
+entries_of [] count = []
+entries_of (run ∷ runs) count = map (λ index. entry_in (run_at run runs index) index) (range_with_len 0 count)
+
+-- the entry that comes next if the last run goes on
+abbrev pub next_of : {T : Type 0} → List (T × ℕ) → Option (T × ℕ)
+next_of [] = None
+next_of (entry ∷ []) = Some (entry.0, entry.1 + 1)
+next_of (entry ∷ later ∷ rest) = next_of (later ∷ rest)
+
+-- the first run begins with the first entry, if there is one
+abbrev pub BeginsAtOnce : {T : Type 0} → List (Run T) → ℕ → Type 0
+BeginsAtOnce [] count = count ≡ 0
+BeginsAtOnce (run ∷ runs) count = run.first ≡ 0
+
+-- these are runs of as many entries, in order
+pub record AreRuns {T : Type 0} (runs : List (Run T)) (count : ℕ) : Type 0 where
+  pub start : BeginsAtOnce runs count
+  pub rising : IsNonDecreasingBy (λ (run : Run T). run.first) runs
+  pub below : All (λ (run : Run T). run.first < count) runs
+  pub few : count < 2 ^ 32
+
+-- as many of these runs begin at this index or before it, and the others begin after it
+pub record HaveBegun {T : Type 0} (runs : List (Run T)) (index count : ℕ) : Type 0 where
+  pub within : count ≤ length runs
+  pub before : (k : ℕ) (d : Run T) → k < count → (slice_index_or runs k d).first ≤ index
+  pub after : (k : ℕ) (d : Run T) → count ≤ k → k < length runs → index < (slice_index_or runs k d).first

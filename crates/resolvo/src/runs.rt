@@ -1,0 +1,131 @@
+//! Lists that are stored as runs.
+
+ghost use Rattle.std.specs.List.Sorted.{IsNonDecreasingBy};
+ghost use Rattle.std.specs.Prelude.{◌<◌, ◌≤◌, ◌≡◌, ◌-◌, ◌^◌, ◌++◌, ◌∷◌, ℕ, [], IfSome, OnErr, OnOk, Some, length, nat_le, slice_get};
+ghost use Rattle.resolvo.specs.Runs.{HaveBegun};
+ghost use Rattle.resolvo.specs.declared.runs.Run.{Run};
+
+use resolver_clause_store::narrow;
+use std::alloc::{AllocError, Global};
+use std::marker::Model;
+
+/// A run of entries, of which each but the first is the one that comes after the one before it.
+#[derive(Clone, Copy)]
+struct Run<T> {
+    /// The index of the first entry.
+    first: u32,
+    /// The first entry.
+    entry: T,
+}
+
+/// A list in which an entry is often the one that comes after the entry before it, for example the next number. A run
+/// of such entries takes no more memory than one entry.
+///
+/// In contracts, an entry is the first one of its run, and the number of steps from there. What comes after an entry is
+/// the caller's to say. If the list would have 2^32 entries, a call is refused as for lack of memory.
+#[derive(Drop)]
+pub struct Runs<T: Copy> {
+    runs: Vec<Run<T>>,
+    /// The number of entries.
+    count: u32,
+}
+
+impl<T: Copy> Model for Runs<T> {
+    ghost use Rattle.std.specs.Prelude.{ℕ, List};
+    ghost use Rattle.resolvo.specs.Runs.{AreRuns, entries_of};
+
+    ghost Value = { List (T × ℕ) };
+
+    ghost view = { λ r. entries_of r.runs.items r.count };
+
+    ghost invariant = { λ r. AreRuns r.runs.items r.count };
+}
+
+/// Returns an entry of a run, as the run's first entry and the number of steps from there.
+fn entry_in<T: Copy>(run: &Run<T>, index: usize) -> (T, usize)
+    requires { run.now.first ≤ index }
+    ensures { result ≡ (run.now.entry, index - run.now.first) }
+{
+    (run.entry, index - run.first as usize)
+}
+
+/// Returns the number of runs that begin at an index or before it.
+fn begun_by<T: Copy>(runs: &[Run<T>], index: usize) -> usize
+    requires { IsNonDecreasingBy (λ (run : Run T). run.first) runs.now }
+    ensures { HaveBegun runs.now index result }
+{
+    runs.partition_point(
+        |run: &Run<T>| -> bool
+            ensures { result ≡ nat_le run.now.first index }
+        { run.first as usize <= index },
+    )
+}
+
+impl<T: Copy> Runs<T> {
+    ghost use Rattle.resolvo.specs.Runs.{next_of};
+
+    /// Returns an empty list.
+    pub fn new(alloc: Global) -> Self
+        ensures { result ≡ [] }
+    {
+        Runs {
+            runs: Vec::new(alloc),
+            count: 0,
+        }
+    }
+
+    /// Returns the number of entries.
+    pub fn len(&self) -> usize
+        ensures count { result ≡ length self.now }
+        ensures few { result < 2 ^ 32 }
+    {
+        self.count as usize
+    }
+
+    /// Returns the entry that comes after the last one, or `None` if the list is empty.
+    pub fn next(&self) -> Option<(T, usize)>
+        ensures value { result ≡ next_of self.now }
+        ensures few { IfSome result (λ entry. entry.1 < 2 ^ 32) }
+    {
+        match self.runs.last() {
+            Some(run) => Some(entry_in(run, self.count as usize)),
+            None => None,
+        }
+    }
+
+    /// Appends the entry that comes after the last one. An error changes nothing.
+    pub fn go_on(&mut self) -> Result<(), AllocError>
+        requires { 0 < length self.old }
+        ensures added { OnOk result ((entry : T × ℕ) → next_of self.old ≡ Some entry → self.new ≡ self.old ++ entry ∷ []) }
+        ensures few { OnOk result (length self.old < 2 ^ 32) }
+        ensures unchanged { OnErr result (self.new ≡ self.old) }
+    {
+        self.count = narrow(self.count as usize + 1)?;
+        Ok(())
+    }
+
+    /// Appends an entry that begins a run. An error changes nothing.
+    pub fn begin(&mut self, entry: T) -> Result<(), AllocError>
+        ensures added { OnOk result (self.new ≡ self.old ++ (entry, 0) ∷ []) }
+        ensures few { OnOk result (length self.old < 2 ^ 32) }
+        ensures unchanged { OnErr result (self.new ≡ self.old) }
+    {
+        let count = narrow(self.count as usize + 1)?;
+        self.runs.push(Run {
+            first: self.count,
+            entry,
+        })?;
+        self.count = count;
+        Ok(())
+    }
+
+    /// Returns the entry with this index, which it finds by a binary search over the runs.
+    pub fn at(&self, index: usize) -> (T, usize)
+        requires { index < length self.now }
+        ensures value { slice_get self.now index ≡ Some result }
+        ensures few { result.1 < 2 ^ 32 }
+    {
+        let begun = begun_by(&self.runs, index);
+        entry_in(&self.runs[begun - 1], index)
+    }
+}
