@@ -6,7 +6,7 @@ use Rattle.resolver_clause_store.specs.declared.ClauseKind.TheVariants.{InstallR
 use Rattle.resolver_clause_store.specs.declared.ClauseKind.TheVariants.{ConstrainsParent, HasBit, Lock, Excluded}
 use Rattle.resolver_encoding.specs.declared.kinds.ConditionalClause.{ConditionalClause}
 use Rattle.resolver_encoding.specs.declared.kinds.StoredKind.{StoredKind}
-use Rattle.resolver_encoding.specs.declared.kinds.StoredKind.TheVariants.{InstallRoot as Root, Requires as Plain, Conditional, AnyOf as Any}
+use Rattle.resolver_encoding.specs.declared.kinds.StoredKind.TheVariants.{InstallRoot as Root, Requires as Plain, Conditional, AnyOf as Help}
 use Rattle.resolver_encoding.specs.declared.kinds.StoredKind.TheVariants.{Constrains as Pair, GateRequires as Gate, ConstrainsExcluded as Outside}
 use Rattle.resolver_encoding.specs.declared.kinds.StoredKind.TheVariants.{ConstrainsParent as Parent, HasBit as Bit, Lock as Locks, Excluded as Excludes}
 
@@ -19,7 +19,7 @@ abbrev pub kind_in : {N S : Type 0} → List (ConditionalClause S) → StoredKin
 kind_in conditional Root = InstallRoot
 kind_in conditional (Plain parent requirement) = Requires parent [] requirement
 kind_in conditional (Conditional place) = option_map_or kind_of (slice_get conditional place) InstallRoot
-kind_in conditional (Any helper candidate) = AnyOf helper candidate
+kind_in conditional (Help helper candidate) = AnyOf helper candidate
 kind_in conditional (Pair parent version_set candidate) = Constrains parent version_set candidate
 kind_in conditional (Gate requirement) = GateRequires requirement
 kind_in conditional (Outside candidate version_set) = ConstrainsExcluded candidate version_set
