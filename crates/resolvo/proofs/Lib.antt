@@ -1,6 +1,7 @@
 pub mod JustifiedLemmas
 pub mod PropagatorLemmas
 pub mod VisitLemmas
+pub mod TwoLiteralLemmas
 pub mod AttachingLemmas
 pub mod WatchedLemmas
 pub mod ReturningLemmas

@@ -1,6 +1,6 @@
 //! Attaching clauses to their watches, and clauses that become pending again.
 
-ghost use Rattle.std.specs.Prelude.{◌≡◌, ◌≢◌, ◌⊎◌, ℕ, ◌+◌, ◌*◌, ◌<◌, ◌≤◌, ◌++◌, ◌∷◌, [], All, IfNone, IfOk, IfSome, List, MatchBool, MatchOption};
+ghost use Rattle.std.specs.Prelude.{◌≡◌, ◌≢◌, ◌⊎◌, ℕ, ◌+◌, ◌*◌, ◌<◌, ◌≤◌, ◌++◌, ◌∷◌, [], All, IfNone, IfOk, IfSome, IsSome, List, MatchBool, MatchOption};
 ghost use Rattle.std.specs.Prelude.{None, OnOk, Some, Vec, length, true};
 ghost use Rattle.std.specs.declared.alloc.Global.{Global};
 ghost use Rattle.resolver_clause_store.specs.Formula.{AreBelow, IsBelow, clause_at};
@@ -232,6 +232,18 @@ fn better(
     }
 }
 
+/// Returns whether the literal at the place found so far is not false, so that no other is better.
+fn is_best(trail: &Trail, literals: &[Literal], found: Option<usize>) -> bool
+    requires below { IsBelow (variable_count trail.now) literals.now }
+    requires found { IfSome found (λ given. given < length literals.now) }
+    ensures { result ≡ true → IsSome found }
+{
+    match found {
+        Some(best) => trail.value(literals[best]) != Some(false),
+        None => false,
+    }
+}
+
 /// Returns the place of the best literal to watch, which has to differ from the one at `other`, if that is given.
 fn best(trail: &Trail, literals: &[Literal], other: Option<usize>) -> Option<usize>
     requires below { IsBelow (variable_count trail.now) literals.now }
@@ -241,6 +253,9 @@ fn best(trail: &Trail, literals: &[Literal], other: Option<usize>) -> Option<usi
     let mut found = None;
     'literals: for place in 0..literals.len() {
         found = better(trail, literals, other, found, place);
+        if is_best(trail, literals, found) {
+            return found;
+        }
     }
     found
 }

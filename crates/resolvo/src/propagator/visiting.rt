@@ -1,6 +1,6 @@
 //! Visits to the clauses that watch a literal which has become false.
 
-ghost use Rattle.std.specs.Prelude.{◌≡◌, ◌≢◌, ◌+◌, ◌<◌, ◌≤◌, ◌++◌, ◌∷◌, [], true, IfNone, IfOk, IfSome, MatchOption, OnErr, OnOk, Some, if◌then◌else◌, length};
+ghost use Rattle.std.specs.Prelude.{◌≡◌, ◌≢◌, ◌⊎◌, ◌+◌, ◌<◌, ◌≤◌, ◌++◌, ◌∷◌, [], true, All, Contains, IfNone, IfOk, IfSome, MatchOption, OnErr, OnOk, Some, if◌then◌else◌, length};
 ghost use Rattle.resolver_clause_store.specs.Formula.{AreBelow, IsBelow, clause_at};
 ghost use Rattle.resolver_clause_store.specs.Outcomes.{IsSatisfied};
 ghost use Rattle.resolver_clause_store.specs.TrailView.{length_of, literal_value, open_count, variable_count};
@@ -10,7 +10,7 @@ ghost use Rattle.resolver_clause_store.specs.Settled.{AllSettled};
 ghost use Rattle.resolvo.specs.Propagators.{IsAttached, IsPropagator};
 ghost use Rattle.resolvo.specs.Visits.{FailsAt, IsPaired, IsVisiting, WatchOutcomeIs, Replaces, StandsAt};
 ghost use Rattle.resolvo.specs.WatchedClauses.{AreOwned};
-ghost use Rattle.resolver_clause_store.specs.Watches.{IsPair};
+ghost use Rattle.resolver_clause_store.specs.Watches.{IsPair, IsWatching};
 ghost use Rattle.resolver_clause_store.specs.WatchesView.{pairs_of};
 
 use super::{Late, Propagator};
@@ -59,6 +59,14 @@ fn other_watched(pair: &WatchedPair, literal: &Literal) -> Literal
         Some(first) => first,
         None => *literal,
     }
+}
+
+/// Returns whether a clause that contains these two literals has no others: whether they differ, and it has two.
+fn are_all(clause: &[Literal], one: &Literal, other: &Literal) -> bool
+    ensures { result ≡ true → Contains clause.now one.now → Contains clause.now other.now →
+        All (λ literal. (literal ≡ one.now) ⊎ (literal ≡ other.now)) clause.now }
+{
+    clause.len() == 2 && *one != *other
 }
 
 /// Returns a literal of the clause that is not false, other than `other`.
@@ -238,7 +246,45 @@ impl Propagator {
         }
     }
 
+    /// Visits a clause whose blocker is not true, and which may have more than two literals.
+    fn visit_clause(
+        &mut self,
+        trail: &mut Trail,
+        table: &Clauses,
+        falsified: &FalseLiteral,
+        place: usize,
+        number: usize,
+    ) -> Result<WatchOutcome, AllocError>
+        requires visiting { IsVisiting table.now trail.old self.old falsified.now place }
+        requires justified { IsJustified table.now trail.old }
+        requires stands { StandsAt (watchers_of self.old falsified.now.literal) place number }
+        requires inside { number < attached_of self.old }
+        requires watching { IsWatching (pairs_of self.old.watches) number falsified.now.literal }
+        ensures outcome { IfOk result (WatchOutcomeIs table.now trail.new self.old self.new falsified.now place) }
+        ensures refused { OnErr result (AreOwned table.now (pairs_of self.new.watches)) }
+        ensures justified { IsJustified table.now trail.new }
+        ensures extends { Extends trail.old trail.new }
+        ensures size { variable_count trail.new ≡ variable_count trail.old }
+        ensures open { open_count trail.new ≤ open_count trail.old }
+        ensures total { open_count trail.new + length_of trail.new ≡ open_count trail.old + length_of trail.old }
+    {
+        let pair = self.watches.pair(number);
+        let watcher = Watcher {
+            number,
+            place,
+            other: other_watched(&pair, &falsified.literal),
+        };
+        if trail.value(watcher.other) == Some(true) {
+            let outcome = self.pass_by_other(trail, table, falsified, &watcher)?;
+            return Ok(outcome);
+        }
+        let outcome = self.find_replacement(trail, table, falsified, &watcher)?;
+        Ok(outcome)
+    }
+
     /// Visits the watcher at a place in the list of a literal that has become false.
+    ///
+    /// If its clause has two literals, the blocker is the other one.
     fn visit_watcher(
         &mut self,
         trail: &mut Trail,
@@ -263,17 +309,16 @@ impl Propagator {
             let outcome = self.pass_by(trail, table, falsified, place, number)?;
             return Ok(outcome);
         }
-        let pair = self.watches.pair(number);
-        let watcher = Watcher {
-            number,
-            place,
-            other: other_watched(&pair, &falsified.literal),
-        };
-        if trail.value(watcher.other) == Some(true) {
-            let outcome = self.pass_by_other(trail, table, falsified, &watcher)?;
+        if are_all(clause(table, number), &falsified.literal, &watch.blocker) {
+            let watcher = Watcher {
+                number,
+                place,
+                other: watch.blocker,
+            };
+            let outcome = self.force_other(trail, table, falsified, &watcher)?;
             return Ok(outcome);
         }
-        let outcome = self.find_replacement(trail, table, falsified, &watcher)?;
+        let outcome = self.visit_clause(trail, table, falsified, place, number)?;
         Ok(outcome)
     }
 
