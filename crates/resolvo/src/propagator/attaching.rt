@@ -1,6 +1,6 @@
 //! Attaching clauses to their watches, and clauses that become pending again.
 
-ghost use Rattle.std.specs.Prelude.{◌≡◌, ◌≢◌, ◌⊎◌, ℕ, ◌+◌, ◌*◌, ◌<◌, ◌≤◌, ◌++◌, ◌∷◌, [], All, IfNone, IfOk, IfSome, IsSome, List, MatchBool, MatchOption};
+ghost use Rattle.std.specs.Prelude.{◌≡◌, ◌≢◌, ◌⊎◌, ℕ, ◌+◌, ◌*◌, ◌<◌, ◌≤◌, ◌++◌, ◌∷◌, [], All, IfNone, IfOk, IfSome, List, MatchBool, MatchOption};
 ghost use Rattle.std.specs.Prelude.{None, OnOk, Some, Vec, length, true};
 ghost use Rattle.std.specs.declared.alloc.Global.{Global};
 ghost use Rattle.resolver_clause_store.specs.Formula.{AreBelow, IsBelow, clause_at};
@@ -232,20 +232,23 @@ fn better(
     }
 }
 
-/// Returns whether the literal at the place found so far is not false, so that no other is better.
-fn is_best(trail: &Trail, literals: &[Literal], found: Option<usize>) -> bool
+/// Returns the place of the first literal that is not false, and that differs from the one at `other`, if that is given.
+fn first_open(trail: &Trail, literals: &[Literal], other: Option<usize>) -> Option<usize>
     requires below { IsBelow (variable_count trail.now) literals.now }
-    requires found { IfSome found (λ given. given < length literals.now) }
-    ensures { result ≡ true → IsSome found }
+    requires other { (given : ℕ) → other ≡ Some given → given < length literals.now }
+    ensures { IfSome result (IsOther literals.now other) }
 {
-    match found {
-        Some(best) => trail.value(literals[best]) != Some(false),
-        None => false,
+    'literals: for place in 0..literals.len() {
+        if trail.value(literals[place]) != Some(false) && is_other(literals, other, place) {
+            return Some(place);
+        }
     }
+    None
 }
 
-/// Returns the place of the best literal to watch, which has to differ from the one at `other`, if that is given.
-fn best(trail: &Trail, literals: &[Literal], other: Option<usize>) -> Option<usize>
+/// Returns the place of the best literal to watch by all places, which has to differ from the one at `other`, if that is
+/// given.
+fn best_of_all(trail: &Trail, literals: &[Literal], other: Option<usize>) -> Option<usize>
     requires below { IsBelow (variable_count trail.now) literals.now }
     requires other { (given : ℕ) → other ≡ Some given → given < length literals.now }
     ensures { MatchOption result (AreAlike literals.now other (length literals.now)) (IsOther literals.now other) }
@@ -253,11 +256,22 @@ fn best(trail: &Trail, literals: &[Literal], other: Option<usize>) -> Option<usi
     let mut found = None;
     'literals: for place in 0..literals.len() {
         found = better(trail, literals, other, found, place);
-        if is_best(trail, literals, found) {
-            return found;
-        }
     }
     found
+}
+
+/// Returns the place of the best literal to watch, which has to differ from the one at `other`, if that is given.
+///
+/// None is better than the first that is not false.
+fn best(trail: &Trail, literals: &[Literal], other: Option<usize>) -> Option<usize>
+    requires below { IsBelow (variable_count trail.now) literals.now }
+    requires other { (given : ℕ) → other ≡ Some given → given < length literals.now }
+    ensures { MatchOption result (AreAlike literals.now other (length literals.now)) (IsOther literals.now other) }
+{
+    match first_open(trail, literals, other) {
+        Some(place) => Some(place),
+        None => best_of_all(trail, literals, other),
+    }
 }
 
 /// Returns two different literals of a clause to watch, if it has two.
