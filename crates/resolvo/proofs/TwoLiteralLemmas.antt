@@ -1,21 +1,19 @@
 -- A clause of two literals, one of which is false.
 use Rattle.std.proofs.Common.{◌≡◌, ◌≢◌, ℕ, zero, suc, ◌<◌, ◌⊎◌, List, [], ◌∷◌, length, get_or, Some, false, inl, inr}
-use Rattle.std.proofs.Common.{sym, ap, ◌∙◌, subst, ⊎_elim, arith}
+use Rattle.std.proofs.Common.{sym, ap, ◌∙◌, ⊎_elim, arith}
 use Rattle.std.specs.Prelude.{All, Contains}
 use Rattle.std.proofs.lemmas.List.Elements.{All-cons, All-nil}
 use Rattle.resolver_clause_store.specs.declared.Literal.{Literal}
 use Rattle.resolver_clause_store.specs.declared.Trail.{Trail}
 use Rattle.resolver_clause_store.specs.Formula.{clause_at}
 use Rattle.resolver_clause_store.specs.TrailView.{literal_value}
-use Rattle.resolver_clause_store.specs.Watches.{IsWatching}
 use Rattle.resolver_clause_store.specs.WatchesView.{pairs_of}
 use Rattle.resolvo.specs.Propagation.{IsUnit}
-use Rattle.resolvo.specs.Propagators.{attached_of}
 use Rattle.resolvo.specs.Visits.{IsPaired, IsVisiting}
 use Rattle.resolvo.specs.declared.propagator.Propagator.{Propagator}
 use Rattle.resolvo.specs.declared.propagator.visiting.FalseLiteral.{FalseLiteral}
 use Rattle.resolvo.proofs.PropagatorLemmas.{value-of}
-use Rattle.resolvo.proofs.VisitLemmas.{paired, paired-other}
+use Rattle.resolvo.proofs.VisitLemmas.{paired-other}
 
 module _ {X : Type 0} (a b one other : X) (differ : one ≢ other) where
   places : (i j : ℕ) → i < 2 → j < 2 → get_or (a ∷ b ∷ []) i one ≡ one → get_or (a ∷ b ∷ []) j other ≡ other →
@@ -37,26 +35,22 @@ two_all (a ∷ []) one other two differ c d = absurd (omega (arith, two))
 two_all (a ∷ b ∷ []) one other two differ c d = places a b one other differ c.0 d.0 c.1 d.1 c.2 d.2
 two_all (a ∷ b ∷ x ∷ xs) one other two differ c d = absurd (omega (arith, two))
 
-module _ (table : List (List Literal)) (trail : Trail) (it : Propagator) (falsified : FalseLiteral) (place number : ℕ) (other : Literal)
-    (visiting : IsVisiting table trail it falsified place)
-    (all : All (λ l. (l ≡ falsified.literal) ⊎ (l ≡ other)) (clause_at table number)) where
-  -- the other literal is the other one that the clause watches
-  pub two-paired : number < attached_of it → IsWatching (pairs_of it.watches) number falsified.literal →
-      IsPaired (pairs_of it.watches) number falsified.literal other
-  two-paired inside watching =
-      let w = visiting.propagator.watched in
-      paired _ _ _ _ _ _ w inside watching (λ l differ pair.
-      let c = w.own number l (paired-other _ number falsified.literal l pair) in
-      let which : (l ≡ falsified.literal) ⊎ (l ≡ other) = subst (λ x. (x ≡ falsified.literal) ⊎ (x ≡ other)) c.2 (all c.0 l c.1) in
-      ⊎_elim (λ (e : l ≡ falsified.literal). absurd (differ (sym e))) (λ (e : l ≡ other). sym e) which)
+-- and a clause of two literals, one of which is false, is unit
+pub two-unit : (trail : Trail) (clause : List Literal) (falsified other : Literal) → length clause ≡ 2 → falsified ≢ other →
+    Contains clause falsified → Contains clause other → literal_value trail falsified ≡ Some false → IsUnit trail other clause
+two-unit trail clause falsified other two differ own there fails k d below =
+    ⊎_elim
+    (λ (e : get_or clause k d ≡ falsified). inr (ap (λ l. literal_value trail l) e ∙ fails))
+    (λ (e : get_or clause k d ≡ other). inl e)
+    (two_all clause falsified other two differ own there k d below)
 
-  -- and the clause is unit
-  pub two-unit : IsUnit trail other (clause_at table number)
-  two-unit k d below =
-      let f = visiting.fails in
-      let Stays : Literal → Type 0 = λ l. (l ≡ other) ⊎ (literal_value trail l ≡ Some false) in
-      ⊎_elim
-      (λ (e : get_or (clause_at table number) k d ≡ falsified.literal).
-      inr (ap (λ l. literal_value trail l) e ∙ value-of trail falsified.literal f.slot false f.is f.false_there))
-      (λ (e : get_or (clause_at table number) k d ≡ other). inl e)
-      (all k d below)
+module _ (table : List (List Literal)) (trail : Trail) (it : Propagator) (falsified : FalseLiteral) (place : ℕ)
+    (visiting : IsVisiting table trail it falsified place) where
+  pub false-now : literal_value trail falsified.literal ≡ Some false
+  false-now = let f = visiting.fails in value-of trail falsified.literal f.slot false f.is f.false_there
+
+  -- the clause contains the false literal, which it watches
+  pub own-false : (number : ℕ) (other : Literal) → IsPaired (pairs_of it.watches) number falsified.literal other →
+      Contains (clause_at table number) falsified.literal
+  own-false number other pair = visiting.propagator.watched.own number falsified.literal
+      (paired-other _ number other falsified.literal (⊎_elim (λ e. inr e) (λ e. inl e) pair.is))

@@ -1,6 +1,6 @@
 //! Visits to the clauses that watch a literal which has become false.
 
-ghost use Rattle.std.specs.Prelude.{◌≡◌, ◌≢◌, ◌⊎◌, ◌+◌, ◌<◌, ◌≤◌, ◌++◌, ◌∷◌, [], true, All, Contains, IfNone, IfOk, IfSome, MatchOption, OnErr, OnOk, Some, if◌then◌else◌, length};
+ghost use Rattle.std.specs.Prelude.{◌≡◌, ◌≢◌, ◌+◌, ◌<◌, ◌≤◌, ◌++◌, ◌∷◌, [], false, true, Contains, IfNone, IfOk, IfSome, MatchOption, OnErr, OnOk, Some, if◌then◌else◌, length};
 ghost use Rattle.resolver_clause_store.specs.Formula.{AreBelow, IsBelow, clause_at};
 ghost use Rattle.resolver_clause_store.specs.Outcomes.{IsSatisfied};
 ghost use Rattle.resolver_clause_store.specs.TrailView.{length_of, literal_value, open_count, variable_count};
@@ -10,7 +10,7 @@ ghost use Rattle.resolver_clause_store.specs.Settled.{AllSettled};
 ghost use Rattle.resolvo.specs.Propagators.{IsAttached, IsPropagator};
 ghost use Rattle.resolvo.specs.Visits.{FailsAt, IsPaired, IsVisiting, WatchOutcomeIs, Replaces, StandsAt};
 ghost use Rattle.resolvo.specs.WatchedClauses.{AreOwned};
-ghost use Rattle.resolver_clause_store.specs.Watches.{IsPair, IsWatching};
+ghost use Rattle.resolver_clause_store.specs.Watches.{IsPair};
 ghost use Rattle.resolver_clause_store.specs.WatchesView.{pairs_of};
 
 use super::{Late, Propagator};
@@ -61,16 +61,8 @@ fn other_watched(pair: &WatchedPair, literal: &Literal) -> Literal
     }
 }
 
-/// Returns whether a clause that contains these two literals has no others: whether they differ, and it has two.
-fn are_all(clause: &[Literal], one: &Literal, other: &Literal) -> bool
-    ensures { result ≡ true → Contains clause.now one.now → Contains clause.now other.now →
-        All (λ literal. (literal ≡ one.now) ⊎ (literal ≡ other.now)) clause.now }
-{
-    clause.len() == 2 && *one != *other
-}
-
-/// Returns a literal of the clause that is not false, other than `other`.
-fn replacement(trail: &Trail, clause: &[Literal], other: &Literal) -> Option<Literal>
+/// Returns the first literal of the clause that is not false, other than `other`.
+fn first_replacement(trail: &Trail, clause: &[Literal], other: &Literal) -> Option<Literal>
     requires { IsBelow (variable_count trail.now) clause.now }
     ensures { MatchOption result (IsUnit trail.now other.now clause.now) (Replaces trail.now clause.now other.now) }
 {
@@ -80,6 +72,28 @@ fn replacement(trail: &Trail, clause: &[Literal], other: &Literal) -> Option<Lit
         }
     }
     None
+}
+
+/// Returns a literal of the clause that is not false, other than `other`.
+///
+/// The clause contains `other` and a literal that is false. If it has only two, they need not be read.
+fn replacement(
+    trail: &Trail,
+    clause: &[Literal],
+    falsified: &Literal,
+    other: &Literal,
+) -> Option<Literal>
+    requires below { IsBelow (variable_count trail.now) clause.now }
+    requires falsified { literal_value trail.now falsified.now ≡ Some false }
+    requires own { Contains clause.now falsified.now }
+    requires other { Contains clause.now other.now }
+    requires differ { falsified.now ≢ other.now }
+    ensures { MatchOption result (IsUnit trail.now other.now clause.now) (Replaces trail.now clause.now other.now) }
+{
+    if clause.len() == 2 {
+        return None;
+    }
+    first_replacement(trail, clause, other)
 }
 
 impl Propagator {
@@ -233,7 +247,8 @@ impl Propagator {
         ensures open { open_count trail.new ≤ open_count trail.old }
         ensures total { open_count trail.new + length_of trail.new ≡ open_count trail.old + length_of trail.old }
     {
-        match replacement(trail, clause(table, watcher.number), &watcher.other) {
+        let literals = clause(table, watcher.number);
+        match replacement(trail, literals, &falsified.literal, &watcher.other) {
             Some(to) => {
                 self.watches
                     .move_watch(falsified.literal, watcher.place, to, watcher.other)?;
@@ -246,45 +261,7 @@ impl Propagator {
         }
     }
 
-    /// Visits a clause whose blocker is not true, and which may have more than two literals.
-    fn visit_clause(
-        &mut self,
-        trail: &mut Trail,
-        table: &Clauses,
-        falsified: &FalseLiteral,
-        place: usize,
-        number: usize,
-    ) -> Result<WatchOutcome, AllocError>
-        requires visiting { IsVisiting table.now trail.old self.old falsified.now place }
-        requires justified { IsJustified table.now trail.old }
-        requires stands { StandsAt (watchers_of self.old falsified.now.literal) place number }
-        requires inside { number < attached_of self.old }
-        requires watching { IsWatching (pairs_of self.old.watches) number falsified.now.literal }
-        ensures outcome { IfOk result (WatchOutcomeIs table.now trail.new self.old self.new falsified.now place) }
-        ensures refused { OnErr result (AreOwned table.now (pairs_of self.new.watches)) }
-        ensures justified { IsJustified table.now trail.new }
-        ensures extends { Extends trail.old trail.new }
-        ensures size { variable_count trail.new ≡ variable_count trail.old }
-        ensures open { open_count trail.new ≤ open_count trail.old }
-        ensures total { open_count trail.new + length_of trail.new ≡ open_count trail.old + length_of trail.old }
-    {
-        let pair = self.watches.pair(number);
-        let watcher = Watcher {
-            number,
-            place,
-            other: other_watched(&pair, &falsified.literal),
-        };
-        if trail.value(watcher.other) == Some(true) {
-            let outcome = self.pass_by_other(trail, table, falsified, &watcher)?;
-            return Ok(outcome);
-        }
-        let outcome = self.find_replacement(trail, table, falsified, &watcher)?;
-        Ok(outcome)
-    }
-
     /// Visits the watcher at a place in the list of a literal that has become false.
-    ///
-    /// If its clause has two literals, the blocker is the other one.
     fn visit_watcher(
         &mut self,
         trail: &mut Trail,
@@ -309,16 +286,17 @@ impl Propagator {
             let outcome = self.pass_by(trail, table, falsified, place, number)?;
             return Ok(outcome);
         }
-        if are_all(clause(table, number), &falsified.literal, &watch.blocker) {
-            let watcher = Watcher {
-                number,
-                place,
-                other: watch.blocker,
-            };
-            let outcome = self.force_other(trail, table, falsified, &watcher)?;
+        let pair = self.watches.pair(number);
+        let watcher = Watcher {
+            number,
+            place,
+            other: other_watched(&pair, &falsified.literal),
+        };
+        if trail.value(watcher.other) == Some(true) {
+            let outcome = self.pass_by_other(trail, table, falsified, &watcher)?;
             return Ok(outcome);
         }
-        let outcome = self.visit_clause(trail, table, falsified, place, number)?;
+        let outcome = self.find_replacement(trail, table, falsified, &watcher)?;
         Ok(outcome)
     }
 

@@ -2,7 +2,7 @@ use Rattle.std.proofs.Common.{◌≡◌, ◌<◌, ◌⊎◌, ℕ, Some, false}
 use Rattle.std.specs.Prelude.{slice_index_or}
 use Rattle.resolver_clause_store.specs.declared.Literal.{Literal}
 use Rattle.resolver_clause_store.specs.TrailView.{literal_value}
-use Rattle.resolvo.proofs.propagator.visiting.replacement.Given as goal
+use Rattle.resolvo.proofs.propagator.visiting.first_replacement.Given as goal
 
 abbrev pub invariant-literals : goal.invariant-literals
 invariant-literals l = (k : ℕ) (d : Literal) → k < l.place → (slice_index_or l.clause k d ≡ l.other) ⊎
