@@ -262,7 +262,7 @@ fn best_of_all(trail: &Trail, literals: &[Literal], other: Option<usize>) -> Opt
 
 /// Returns the place of the best literal to watch, which has to differ from the one at `other`, if that is given.
 ///
-/// None is better than the first that is not false.
+/// No literal is better than the first that is not false.
 fn best(trail: &Trail, literals: &[Literal], other: Option<usize>) -> Option<usize>
     requires below { IsBelow (variable_count trail.now) literals.now }
     requires other { (given : ℕ) → other ≡ Some given → given < length literals.now }
