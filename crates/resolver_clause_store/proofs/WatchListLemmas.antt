@@ -18,8 +18,8 @@ use Rattle.resolver_clause_store.specs.declared.literals.Literal.{Literal}
 use Rattle.resolver_clause_store.specs.Formula.{clause_at}
 use Rattle.resolver_clause_store.specs.declared.watches.Watch.{Watch}
 use Rattle.resolver_clause_store.specs.declared.pairs.WatchedPair.{WatchedPair}
-use Rattle.resolver_clause_store.specs.Watches.{HasBlockers, IsPair, IsWatched, IsWatching, MovesWatch, PutsList, SameClauses, entry_count, is_literal}
-use Rattle.resolver_clause_store.specs.Watches.{is_watched, list_at, list_number, number_at, pair_at, pair_count, replaced, same, stands_in, unwatched}
+use Rattle.resolver_clause_store.specs.Watches.{FitClauses, FitsClause, IsPair, IsWatched, IsWatching, MovesWatch, PutsList, SameClauses, entry_count, is_literal}
+use Rattle.resolver_clause_store.specs.Watches.{is_watched, list_at, list_number, no_watch, pair_at, pair_count, replaced, same, stands_in, unwatched, watch_at, with_blocker}
 use Rattle.resolver_clause_store.proofs.BoolLemmas.{beq-itself, beq-true}
 use Rattle.resolver_clause_store.specs.Watches.{watched_pair}
 
@@ -376,39 +376,49 @@ puts-all P old new list watches puts all' before l = ⊎_elim
     (λ (ne : l ≢ list). subst (λ (ws : List Watch). All P ws) (sym (puts.others l ne)) (before l))
     (cases_eq l list)
 
-pub blockers-push : (table : List (List Literal)) (old new : List (Vec Watch Global)) (list : ℕ) (watch : Watch) →
-    PutsList old new list (list_at old list ++ watch ∷ []) → Contains (clause_at table watch.number) watch.blocker → HasBlockers table old →
-    HasBlockers table new
-blockers-push table old new list watch puts contains before =
-    let P : Watch → Type 0 = λ w. Contains (clause_at table w.number) w.blocker in
-    puts-all P old new list _ puts (All-push P (list_at old list) watch (before list) contains) before
+pub fit-push : (table : List (List Literal)) (old new : List (Vec Watch Global)) (list : ℕ) (watch : Watch) →
+    PutsList old new list (list_at old list ++ watch ∷ []) → FitsClause table watch → FitClauses table old → FitClauses table new
+fit-push table old new list watch puts fits before =
+    let P : Watch → Type 0 = λ w. FitsClause table w in
+    puts-all P old new list _ puts (All-push P (list_at old list) watch (before list) fits) before
 
-pub blockers-set : (table : List (List Literal)) (old new : List (Vec Watch Global)) (list place : ℕ) (watch : Watch) →
-    PutsList old new list (set (list_at old list) place watch) → Contains (clause_at table watch.number) watch.blocker → HasBlockers table old →
-    HasBlockers table new
-blockers-set table old new list place watch puts contains before =
-    let P : Watch → Type 0 = λ w. Contains (clause_at table w.number) w.blocker in
-    puts-all P old new list _ puts (All-set P (list_at old list) place watch contains (before list)) before
+pub fit-set : (table : List (List Literal)) (old new : List (Vec Watch Global)) (list place : ℕ) (watch : Watch) →
+    PutsList old new list (set (list_at old list) place watch) → FitsClause table watch → FitClauses table old → FitClauses table new
+fit-set table old new list place watch puts fits before =
+    let P : Watch → Type 0 = λ w. FitsClause table w in
+    puts-all P old new list _ puts (All-set P (list_at old list) place watch fits (before list)) before
 
-pub blockers-take : (table : List (List Literal)) (old new : List (Vec Watch Global)) (list place : ℕ) (d : Watch) →
-    PutsList old new list (swap_remove (list_at old list) place d) → place < length (list_at old list) → HasBlockers table old → HasBlockers table new
-blockers-take table old new list place d puts inside before =
-    let P : Watch → Type 0 = λ w. Contains (clause_at table w.number) w.blocker in
+pub fit-take : (table : List (List Literal)) (old new : List (Vec Watch Global)) (list place : ℕ) (d : Watch) →
+    PutsList old new list (swap_remove (list_at old list) place d) → place < length (list_at old list) → FitClauses table old → FitClauses table new
+fit-take table old new list place d puts inside before =
+    let P : Watch → Type 0 = λ w. FitsClause table w in
     let xs = list_at old list in
     puts-all P old new list _ puts
     (All-take P (length xs - 1) (set xs place (get_or xs (length xs - 1) d))
     (All-set P xs place _ (before list (length xs - 1) d (omega (arith, inside))) (before list))) before
 
--- the number at a place
-pub number_at-watch : (watches : List Watch) (place : ℕ) (watch : Watch) → slice_get watches place ≡ Some watch → number_at watches place ≡ watch.number
-number_at-watch watches place watch is = ap (λ o. option_map_or (λ (w : Watch). w.number) o 0) is
+-- a watch in a list fits its clause
+pub fit-at : (table : List (List Literal)) (lists : List (Vec Watch Global)) (list place : ℕ) (watch : Watch) → FitClauses table lists →
+    slice_get (list_at lists list) place ≡ Some watch → FitsClause table watch
+fit-at table lists list place watch fit is =
+    subst (λ (w : Watch). FitsClause table w) (get_or_from_slice_get (list_at lists list) place watch watch is)
+    (fit list place watch (slice_get_within (list_at lists list) place watch is))
 
-pub number_at-get_or : (watches : List Watch) (place : ℕ) (d : Watch) → place < length watches → number_at watches place ≡ (get_or watches place d).number
-number_at-get_or watches place d within = number_at-watch watches place (get_or watches place d) (slice_get-get_or watches place d within)
+-- and so it does with another blocker
+pub fits-with : (table : List (List Literal)) (watch : Watch) (blocker : Literal) → FitsClause table watch →
+    Contains (clause_at table watch.number) blocker → FitsClause table (with_blocker watch blocker)
+fits-with table watch blocker fits contains = record { own = contains; two = fits.two }
+
+-- the watch at a place
+pub watch_at-is : (watches : List Watch) (place : ℕ) (watch : Watch) → slice_get watches place ≡ Some watch → watch_at watches place ≡ watch
+watch_at-is watches place watch is = get_or_from_slice_get watches place watch no_watch is
+
+pub watch_at-get_or : (watches : List Watch) (place : ℕ) (d : Watch) → place < length watches → watch_at watches place ≡ get_or watches place d
+watch_at-get_or watches place d within = watch_at-is watches place (get_or watches place d) (slice_get-get_or watches place d within)
 
 -- the watch at a place gets another blocker
 pub watched-set : (lists new : List (Vec Watch Global)) (pairs : List WatchedPair) (list place : ℕ) (watch : Watch) → IsWatched lists pairs →
-    PutsList lists new list (set (list_at lists list) place watch) → place < length (list_at lists list) → watch.number ≡ number_at (list_at lists list) place →
+    PutsList lists new list (set (list_at lists list) place watch) → place < length (list_at lists list) → watch.number ≡ (watch_at (list_at lists list) place).number →
     IsWatched new pairs
 unfolding entry_count
 watched-set lists new pairs list place watch watched puts inside named = λ l n. ⊎_elim
@@ -416,7 +426,7 @@ watched-set lists new pairs list place watch watched puts inside named = λ l n.
     let here = ap (λ ws. count_by (λ (w : Watch). eqb w.number n) ws) puts.here in
     let sums = sum_by-set (λ (w : Watch). cond (eqb w.number n) 1 0) (list_at lists list) place watch watch inside in
     let one : ◌≡◌ {A = ℕ} (cond (eqb watch.number n) 1 0) (cond (eqb (get_or (list_at lists list) place watch).number n) 1 0) =
-    ap (λ k. cond (eqb k n) 1 0) (named ∙ number_at-get_or (list_at lists list) place watch inside) in
+    ap (λ k. cond (eqb k n) 1 0) (named ∙ ap (λ (w : Watch). w.number) (watch_at-get_or (list_at lists list) place watch inside)) in
     subst (λ k. entry_count new k n ≡ pair_count (pair_at pairs n) k) (sym e) (omega (arith, here, sums, one, watched list n)))
     (λ (ne : l ≢ list). count-others lists new list _ puts l n ne ∙ watched l n)
     (cases_eq l list)
@@ -439,10 +449,10 @@ taken-before watches place d k inside before =
 
 -- another blocker
 pub same-clauses : (old new : List (Vec Watch Global)) (list place : ℕ) (blocker : Literal) → place < length (list_at old list) →
-    PutsList old new list (set (list_at old list) place (record { number = number_at (list_at old list) place; blocker = blocker })) → SameClauses old new
+    PutsList old new list (set (list_at old list) place (with_blocker (watch_at (list_at old list) place) blocker)) → SameClauses old new
 same-clauses old new list place blocker inside puts =
     let xs = list_at old list in
-    let written : Watch = record { number = number_at xs place; blocker = blocker } in
+    let written : Watch = with_blocker (watch_at xs place) blocker in
     record {
       size = puts.size;
       count = λ l. ⊎_elim
@@ -455,7 +465,7 @@ same-clauses old new list place blocker inside puts =
           let here : slice_get (set xs place written) k ≡ Some watch = ap (λ (ws : List Watch). slice_get ws k) (sym puts.here) ∙
           subst (λ m. slice_get (list_at new m) k ≡ Some watch) e is in
           subst (λ m. (was : Watch) × (slice_get (list_at old m) k ≡ Some was) × (was.number ≡ watch.number)) (sym e)
-          (set-back xs place k written watch inside (number_at-get_or xs place written inside) here))
+          (set-back xs place k written watch inside (ap (λ (w : Watch). w.number) (watch_at-get_or xs place written inside)) here))
           (λ (ne : l ≢ list). (watch, ap (λ (ws : List Watch). slice_get ws k) (sym (puts.others l ne)) ∙ is, refl))
           (cases_eq l list);
     }
@@ -496,14 +506,14 @@ moves-watch old mid new before from to place d watch differ inside pushed taken 
       first = λ k less. ap (λ (ws : List Watch). slice_get ws k) list' ∙ taken-before (list_at old f) place d k at' less;
     }
 
-pub blockers-move : (table : List (List Literal)) (old mid new : List (Vec Watch Global)) (from to : Literal) (place : ℕ) (d watch : Watch) → from ≢ to →
+pub fit-move : (table : List (List Literal)) (old mid new : List (Vec Watch Global)) (from to : Literal) (place : ℕ) (d watch : Watch) → from ≢ to →
     PutsList old mid (list_number to) (list_at old (list_number to) ++ watch ∷ []) →
     PutsList mid new (list_number from) (swap_remove (list_at mid (list_number from)) place d) → place < length (list_at old (list_number from)) →
-    Contains (clause_at table watch.number) watch.blocker → HasBlockers table old → HasBlockers table new
-blockers-move table old mid new from to place d watch differ pushed taken inside contains has =
+    FitsClause table watch → FitClauses table old → FitClauses table new
+fit-move table old mid new from to place d watch differ pushed taken inside fits has =
     let stays = pushed.others (list_number from) (list_number-differ from to differ) in
-    blockers-take table mid new (list_number from) place d taken (omega (arith, inside, ap (λ (ws : List Watch). length ws) stays))
-    (blockers-push table old mid (list_number to) watch pushed contains has)
+    fit-take table mid new (list_number from) place d taken (omega (arith, inside, ap (λ (ws : List Watch). length ws) stays))
+    (fit-push table old mid (list_number to) watch pushed fits has)
 
 -- a clause that was added with its two literals
 pub pairs-two : (old mid new last : List WatchedPair) (number : ℕ) (one two goal : WatchedPair) → number ≡ length old → mid ≡ old ++ unwatched ∷ [] →
@@ -551,7 +561,7 @@ pub record IsMove (old mid new : List (Vec Watch Global)) (before : List Watched
   pub value : slice_get (list_at old (list_number from)) place ≡ Some read
   pub inside : read.number < length before
   pub watching : IsWatching before read.number from
-  pub pushed : PutsList old mid (list_number to) (list_at old (list_number to) ++ record { number = read.number; blocker = blocker } ∷ [])
+  pub pushed : PutsList old mid (list_number to) (list_at old (list_number to) ++ with_blocker read blocker ∷ [])
   pub taken : PutsList mid new (list_number from) (swap_remove (list_at mid (list_number from)) place read)
   pub pair_is : pair ≡ replaced (pair_at before read.number) from to
 
@@ -579,11 +589,12 @@ module _ (old mid new : List (Vec Watch Global)) (before : List WatchedPair) (fr
       (subst (λ (p : WatchedPair). MovesWatch old new before (set before read.number p) from to place read.number) (sym m.pair_is)
       (moves-watch old mid new before from to place read _ m.differ m.inside m.pushed m.taken at'))
 
-  pub move-blockers : (table : List (List Literal)) (watch : Watch) → slice_get (list_at old (list_number from)) place ≡ Some watch →
-      Contains (clause_at table watch.number) blocker → HasBlockers table old → HasBlockers table new
-  move-blockers table watch is contains has =
-      blockers-move table old mid new from to place read _ m.differ m.pushed m.taken at'
-      (subst (λ n. Contains (clause_at table n) blocker) (sym (ap (λ (w : Watch). w.number) (found watch is))) contains) has
+  pub move-fit : (table : List (List Literal)) (watch : Watch) → slice_get (list_at old (list_number from)) place ≡ Some watch →
+      Contains (clause_at table watch.number) blocker → FitClauses table old → FitClauses table new
+  move-fit table watch is contains has =
+      fit-move table old mid new from to place read _ m.differ m.pushed m.taken at'
+      (fits-with table read blocker (fit-at table old (list_number from) place read has m.value)
+      (subst (λ n. Contains (clause_at table n) blocker) (sym (ap (λ (w : Watch). w.number) (found watch is))) contains)) has
 
 pub kept-same : (old new : List WatchedPair) → new ≡ old → (number : ℕ) → number < length old → pair_at new number ≡ pair_at old number
 kept-same old new same number inside = ap (λ (ps : List WatchedPair). pair_at ps number) same

@@ -1,5 +1,5 @@
 -- The clauses that watch each literal.
-use Rattle.std.specs.Prelude.{◌≡◌, ◌≢◌, ◌⊎◌, ℕ, ◌+◌, ◌*◌, ◌<◌, ◌==◌, Bool, false, Option, Some, None, List, [], length, Vec, All, Contains, slice_get}
+use Rattle.std.specs.Prelude.{◌≡◌, ◌≢◌, ◌⊎◌, ℕ, ◌+◌, ◌*◌, ◌<◌, ◌==◌, Bool, true, false, Option, Some, None, List, [], length, Vec, All, Contains, slice_get}
 use Rattle.std.specs.Prelude.{slice_index_or, count_by, if◌then◌else◌}
 use Rattle.std.specs.Bool.{beq}
 use Rattle.std.specs.Option.{option_map, option_map_or}
@@ -17,9 +17,22 @@ list_number literal = 2 * literal.variable + (if literal.positive then 1 else 0)
 abbrev pub list_at : List (Vec Watch Global) → ℕ → List Watch
 list_at lists list = option_map_or (λ (watches : Vec Watch Global). watches.items) (slice_get lists list) []
 
--- the number of the clause at a place of a list, 0 if the list ends before it
-abbrev pub number_at : List Watch → ℕ → ℕ
-number_at list place = option_map_or (λ (watch : Watch). watch.number) (slice_get list place) 0
+-- stands for the watch behind the end of a list
+abbrev pub no_watch : Watch
+no_watch = record { number = 0; blocker_variable = 0; is_blocker_positive = false; is_binary = false }
+
+-- the watch at a place of a list
+abbrev pub watch_at : List Watch → ℕ → Watch
+watch_at list place = slice_index_or list place no_watch
+
+-- a literal of the watched clause: while it is true, the clause need not be visited
+abbrev pub blocker_of : Watch → Literal
+blocker_of watch = record { variable = watch.blocker_variable; positive = watch.is_blocker_positive }
+
+-- the watch with another blocker
+abbrev pub with_blocker : Watch → Literal → Watch
+with_blocker watch blocker =
+    record { number = watch.number; blocker_variable = blocker.variable; is_blocker_positive = blocker.positive; is_binary = watch.is_binary }
 
 -- a clause that watches nothing
 abbrev pub unwatched : WatchedPair
@@ -69,9 +82,14 @@ IsWatched lists pairs = (list number : ℕ) → entry_count lists list number �
 abbrev pub IsWatching : List WatchedPair → ℕ → Literal → Type 0
 IsWatching pairs number literal = ((pair_at pairs number).first ≡ Some literal) ⊎ ((pair_at pairs number).second ≡ Some literal)
 
--- the blocker of each watch is a literal of its clause
-abbrev pub HasBlockers : List (List Literal) → List (Vec Watch Global) → Type 0
-HasBlockers table lists = (list : ℕ) → All (λ (watch : Watch). Contains (clause_at table watch.number) watch.blocker) (list_at lists list)
+-- the blocker is a literal of the clause, and a clause that is called binary has two literals
+pub record FitsClause (table : List (List Literal)) (watch : Watch) : Type 0 where
+  pub own : Contains (clause_at table watch.number) (blocker_of watch)
+  pub two : watch.is_binary ≡ true → length (clause_at table watch.number) ≡ 2
+
+-- each watch fits its clause
+abbrev pub FitClauses : List (List Literal) → List (Vec Watch Global) → Type 0
+FitClauses table lists = (list : ℕ) → All (λ (watch : Watch). FitsClause table watch) (list_at lists list)
 
 -- the clause watches these two literals
 abbrev pub IsPair : WatchedPair → Literal → Literal → Type 0

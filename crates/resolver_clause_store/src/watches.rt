@@ -4,20 +4,50 @@ ghost use Rattle.std.specs.Prelude.{◌≡◌, ◌≢◌, ℕ, ◌+◌, ◌*◌,
 ghost use Rattle.std.specs.List.{swap_remove};
 ghost use Rattle.std.specs.declared.alloc.Global.{Global};
 ghost use Rattle.resolver_clause_store.specs.declared.literals.Literal.{Literal};
-ghost use Rattle.resolver_clause_store.specs.Watches.{IsWatched, PutsList, is_watched, list_at, list_number, number_at, replaced};
+ghost use Rattle.resolver_clause_store.specs.Watches.{IsWatched, PutsList, blocker_of, is_watched, list_at, list_number, replaced, watch_at, with_blocker};
 
-use crate::literals::Literal;
+use crate::literals::{Literal, Variable};
 use crate::numbers::narrow;
 use crate::pairs::{WatchedPair, WatchedPairs};
 use std::alloc::{AllocError, Global};
 
 /// A clause in the list of a literal that it watches.
+///
+/// The parts of the blocker stand side by side, so a watch takes twelve bytes.
 #[derive(Clone, Copy, PartialEq, Eq)]
 pub struct Watch {
     /// The clause's number.
     pub number: u32,
-    /// A literal of the clause. While it is true, the clause need not be visited.
-    pub blocker: Literal,
+    /// The variable of a literal of the clause. While that literal is true, the clause need not be visited.
+    pub blocker_variable: Variable,
+    /// Whether that literal is positive.
+    pub is_blocker_positive: bool,
+    /// Whether the clause is known to have two literals.
+    pub is_binary: bool,
+}
+
+impl Watch {
+    /// Returns a literal of the clause. While it is true, the clause need not be visited.
+    pub fn blocker(&self) -> Literal
+        ensures { result ≡ blocker_of self.now }
+    {
+        Literal {
+            variable: self.blocker_variable,
+            positive: self.is_blocker_positive,
+        }
+    }
+}
+
+/// Returns the watch of a clause with this number.
+fn watch_of(number: u32, blocker: Literal, is_binary: bool) -> Watch
+    ensures { result ≡ record { number = number; blocker_variable = blocker.variable; is_blocker_positive = blocker.positive; is_binary = is_binary } }
+{
+    Watch {
+        number,
+        blocker_variable: blocker.variable,
+        is_blocker_positive: blocker.positive,
+        is_binary,
+    }
 }
 
 /// Returns the number of a literal's list.
@@ -99,10 +129,10 @@ fn set_at(lists: &mut Vec<Vec<Watch>>, list: usize, place: usize, blocker: Liter
     requires list { list < length lists.old.items }
     requires place { place < length (list_at lists.old.items list) }
     ensures { PutsList lists.old.items lists.new.items list
-        (slice_set (list_at lists.old.items list) place (record { number = number_at (list_at lists.old.items list) place; blocker = blocker })) }
+        (slice_set (list_at lists.old.items list) place (with_blocker (watch_at (list_at lists.old.items list) place) blocker)) }
 {
-    let number = lists[list][place].number;
-    lists[list][place] = Watch { number, blocker };
+    let watch = lists[list][place];
+    lists[list][place] = watch_of(watch.number, blocker, watch.is_binary);
 }
 
 /// The clauses that watch each literal, and the two literals that each clause watches.
@@ -117,9 +147,9 @@ pub struct Watches {
 }
 
 impl Watches {
-    ghost use Rattle.std.specs.Prelude.{Contains};
+    ghost use Rattle.std.specs.Prelude.{Contains, true};
     ghost use Rattle.resolver_clause_store.specs.Formula.{clause_at};
-    ghost use Rattle.resolver_clause_store.specs.Watches.{HasBlockers, IsWatching, MovesWatch, SameClauses, pair_at, pair_count, pair_from, same, unwatched};
+    ghost use Rattle.resolver_clause_store.specs.Watches.{FitClauses, IsWatching, MovesWatch, SameClauses, pair_at, pair_count, pair_from, same, unwatched};
     ghost use Rattle.resolver_clause_store.specs.Watches.{watched_pair};
     ghost use Rattle.resolver_clause_store.specs.WatchesView.{HasList, lists_of, pairs_of};
 
@@ -185,35 +215,42 @@ impl Watches {
     /// Makes a clause watch one more literal, with `pair` as its new pair.
     fn attach(
         &mut self,
-        number: u32,
+        watch: Watch,
         pair: WatchedPair,
         literal: Literal,
-        blocker: Literal,
     ) -> Result<(), AllocError>
-        requires number { number < length (pairs_of self.old) }
+        requires number { watch.number < length (pairs_of self.old) }
         requires list { HasList self.old literal }
-        requires gains { (list : ℕ) → pair_count pair list ≡ pair_count (pair_at (pairs_of self.old) number) list + same (list_number literal) list }
-        ensures pairs { OnOk result (pairs_of self.new ≡ slice_set (pairs_of self.old) number pair) }
+        requires gains { (list : ℕ) → pair_count pair list ≡
+            pair_count (pair_at (pairs_of self.old) watch.number) list + same (list_number literal) list }
+        ensures pairs { OnOk result (pairs_of self.new ≡ slice_set (pairs_of self.old) watch.number pair) }
         ensures lists { OnOk result (PutsList (lists_of self.old) (lists_of self.new) (list_number literal)
-            (list_at (lists_of self.old) (list_number literal) ++ record { number = number; blocker = blocker } ∷ [])) }
+            (list_at (lists_of self.old) (list_number literal) ++ watch ∷ [])) }
         ensures kept { OnErr result (pairs_of self.new ≡ pairs_of self.old) }
     {
-        let watch = Watch { number, blocker };
+        let number = watch.number as usize;
         push_at(&mut self.lists, list_number(literal), watch)?;
-        self.pairs.set(number as usize, pair);
+        self.pairs.set(number, pair);
         Ok(())
     }
 
     /// Appends a clause that watches two literals, which are each other's blockers.
-    fn add_two(&mut self, first: Literal, second: Literal) -> Result<(), AllocError>
+    fn add_two(
+        &mut self,
+        first: Literal,
+        second: Literal,
+        is_binary: bool,
+    ) -> Result<(), AllocError>
         requires first { HasList self.old first }
         requires second { HasList self.old second }
         ensures pairs { OnOk result (pairs_of self.new ≡ pairs_of self.old ++ watched_pair first second ∷ []) }
         ensures kept { (number : ℕ) → number < length (pairs_of self.old) → pair_at (pairs_of self.new) number ≡ pair_at (pairs_of self.old) number }
         ensures size { OnOk result (length (lists_of self.new) ≡ length (lists_of self.old)) }
-        ensures blockers { OnOk result
+        ensures fit { OnOk result
             ((table : List (List Literal)) → Contains (clause_at table (length (pairs_of self.old))) first →
-            Contains (clause_at table (length (pairs_of self.old))) second → HasBlockers table (lists_of self.old) → HasBlockers table (lists_of self.new)) }
+            Contains (clause_at table (length (pairs_of self.old))) second →
+            (is_binary ≡ true → length (clause_at table (length (pairs_of self.old))) ≡ 2) →
+            FitClauses table (lists_of self.old) → FitClauses table (lists_of self.new)) }
     {
         let number = narrow(self.pairs.len())?;
         self.add_none()?;
@@ -221,12 +258,13 @@ impl Watches {
             first: Some(copied(&first)),
             second: None,
         };
-        self.attach(number, one, copied(&first), copied(&second))?;
+        let watch = watch_of(number, copied(&second), is_binary);
+        self.attach(watch, one, copied(&first))?;
         let two = WatchedPair {
             first: Some(copied(&first)),
             second: Some(copied(&second)),
         };
-        self.attach(number, two, second, first)?;
+        self.attach(watch_of(number, first, is_binary), two, second)?;
         Ok(())
     }
 
@@ -244,20 +282,28 @@ impl Watches {
     }
 
     /// Appends a clause that watches two literals, which are each other's blockers, or none.
-    pub fn add(&mut self, pair: Option<(Literal, Literal)>) -> Result<(), AllocError>
+    ///
+    /// `is_binary` says that the clause has two literals.
+    pub fn add(
+        &mut self,
+        pair: Option<(Literal, Literal)>,
+        is_binary: bool,
+    ) -> Result<(), AllocError>
         requires inside { (first second : Literal) → pair ≡ Some (first, second) → (list_number first < length (lists_of self.old)) ×
             (list_number second < length (lists_of self.old)) }
         ensures pairs { OnOk result (pairs_of self.new ≡ pairs_of self.old ++ pair_from pair ∷ []) }
         ensures kept { (number : ℕ) → number < length (pairs_of self.old) → pair_at (pairs_of self.new) number ≡ pair_at (pairs_of self.old) number }
         ensures size { OnOk result (length (lists_of self.new) ≡ length (lists_of self.old)) }
-        ensures blockers { OnOk result
+        ensures fit { OnOk result
             ((table : List (List Literal)) →
             ((first second : Literal) → pair ≡ Some (first, second) → Contains (clause_at table (length (pairs_of self.old))) first ×
-            Contains (clause_at table (length (pairs_of self.old))) second) → HasBlockers table (lists_of self.old) → HasBlockers table (lists_of self.new)) }
+            Contains (clause_at table (length (pairs_of self.old))) second) →
+            (is_binary ≡ true → length (clause_at table (length (pairs_of self.old))) ≡ 2) →
+            FitClauses table (lists_of self.old) → FitClauses table (lists_of self.new)) }
     {
         match pair {
             Some((first, second)) => {
-                self.add_two(first, second)?;
+                self.add_two(first, second, is_binary)?;
                 Ok(())
             }
             None => {
@@ -273,12 +319,12 @@ impl Watches {
         requires place { place < length (list_at (lists_of self.old) (list_number literal)) }
         ensures set { PutsList (lists_of self.old) (lists_of self.new) (list_number literal)
             (slice_set (list_at (lists_of self.old) (list_number literal)) place
-            (record { number = number_at (list_at (lists_of self.old) (list_number literal)) place; blocker = blocker })) }
+            (with_blocker (watch_at (list_at (lists_of self.old) (list_number literal)) place) blocker)) }
         ensures same { SameClauses (lists_of self.old) (lists_of self.new) }
         ensures pairs { pairs_of self.new ≡ pairs_of self.old }
-        ensures blockers { (table : List (List Literal)) (watch : Watch) →
+        ensures fit { (table : List (List Literal)) (watch : Watch) →
             slice_get (list_at (lists_of self.old) (list_number literal)) place ≡ Some watch → Contains (clause_at table watch.number) blocker →
-            HasBlockers table (lists_of self.old) → HasBlockers table (lists_of self.new) }
+            FitClauses table (lists_of self.old) → FitClauses table (lists_of self.new) }
     {
         set_at(&mut self.lists, list_number(literal), place, blocker);
     }
@@ -300,15 +346,15 @@ impl Watches {
         ensures moved { OnOk result ((watch : Watch) → slice_get (list_at (lists_of self.old) (list_number from)) place ≡ Some watch →
             MovesWatch (lists_of self.old) (lists_of self.new) (pairs_of self.old) (pairs_of self.new) from to place watch.number) }
         ensures kept { OnErr result (pairs_of self.new ≡ pairs_of self.old) }
-        ensures blockers { OnOk result
+        ensures fit { OnOk result
             ((table : List (List Literal)) (watch : Watch) → slice_get (list_at (lists_of self.old) (list_number from)) place ≡ Some watch →
-            Contains (clause_at table watch.number) blocker → HasBlockers table (lists_of self.old) → HasBlockers table (lists_of self.new)) }
+            Contains (clause_at table watch.number) blocker → FitClauses table (lists_of self.old) → FitClauses table (lists_of self.new)) }
     {
-        let number = self.watch_at(copied(&from), place).number;
-        let watch = Watch { number, blocker };
-        push_at(&mut self.lists, list_number(copied(&to)), watch)?;
+        let watch = self.watch_at(copied(&from), place);
+        let moved = watch_of(watch.number, blocker, watch.is_binary);
+        push_at(&mut self.lists, list_number(copied(&to)), moved)?;
         take_at(&mut self.lists, list_number(copied(&from)), place);
-        let index = number as usize;
+        let index = watch.number as usize;
         let pair = replaced(self.pairs.at(index), from, to);
         self.pairs.set(index, pair);
         Ok(())

@@ -1,12 +1,12 @@
 -- The invariant of propagation is kept when clauses are attached, the trail is cut, or variables are added.
 use Rattle.std.proofs.Common.{◌≡◌, ◌≢◌, ℕ, ◌+◌, ◌*◌, ◌-◌, ◌<◌, ◌≤◌, ◌⊎◌, List, [], ◌∷◌, ◌++◌, length, get_or, take, min, Some, None, Option}
-use Rattle.std.proofs.Common.{true, append_assoc, arith, inl, inr, refl, sym, ap, ◌∙◌, subst, ⊎_elim, length-append}
+use Rattle.std.proofs.Common.{Bool, eqb, true, append_assoc, arith, inl, inr, refl, sym, ap, ◌∙◌, subst, ⊎_elim, length-append}
 use Rattle.std.specs.Prelude.{Vec, slice_get}
 use Rattle.std.specs.Bool.{beq}
 use Rattle.std.specs.List.{All, Any, Contains}
 use Rattle.std.specs.Option.{MatchOption, option_map}
 use Rattle.std.specs.declared.alloc.Global.{Global}
-use Rattle.std.proofs.lemmas.Bool.{cases_eq, cases_lt}
+use Rattle.std.proofs.lemmas.Bool.{cases_eq, cases_lt, eqb-true}
 use Rattle.std.proofs.lemmas.List.Elements.{All-contains, All-push, Contains-append_cases, Contains-append_left, Contains-append_right}
 use Rattle.std.proofs.lemmas.List.{append-nil, get_or_push, take_all, take_more}
 use Rattle.std.proofs.lemmas.Option.{none-some, get_or_from_slice_get, same_Some, slice_get-get_or, slice_get_within}
@@ -32,7 +32,7 @@ use Rattle.resolvo.specs.Propagation.{IsJustified, IsUnit}
 use Rattle.resolver_clause_store.specs.Settled.{IsOpen}
 use Rattle.resolvo.specs.Propagators.{AreLate, AreWatched, Covers, IsConstant, IsExcused, IsNoted, IsPropagator, IsTrueAt, IsTrueBefore, WatchesTwo}
 use Rattle.resolvo.specs.Propagators.{attached_of, head_of, late_of, pending_of}
-use Rattle.resolver_clause_store.specs.Watches.{HasBlockers, IsWatching, list_at, pair_at, pair_from, unwatched, watched_pair}
+use Rattle.resolver_clause_store.specs.Watches.{FitClauses, FitsClause, IsWatching, blocker_of, list_at, pair_at, pair_from, unwatched, watched_pair}
 use Rattle.resolver_clause_store.specs.WatchesView.{lists_of, pairs_of}
 use Rattle.resolvo.proofs.PropagatorLemmas.{any-map, covers-kept, late-kept}
 use Rattle.resolver_clause_store.proofs.BoolLemmas.{beq-itself as beq-same}
@@ -50,13 +50,12 @@ pub propagator-grown : (table : List (List Literal)) (old new : Trail) (variable
     pairs_of watches ≡ pairs_of p.watches → IsGrown old new variables → IsPropagator table old p → IsPropagator table new (record p { watches = watches })
 propagator-grown table old new variables p watches size lists pairs grown it =
     let keeps : Keeps old new = record { kept = λ v s at. grown.slots v ∙ at } in
-    let blockers : HasBlockers table (lists_of watches) =
-    λ list. subst (λ (ws : List Watch). All (λ (w : Watch). Contains (clause_at table w.number) w.blocker) ws) (sym (lists list))
-    (it.watched.blockers list) in
+    let fit : FitClauses table (lists_of watches) =
+    λ list. subst (λ (ws : List Watch). All (λ (w : Watch). FitsClause table w) ws) (sym (lists list)) (it.watched.fit list) in
     record {
       lists = size ∙ ap (λ n. 2 * n) (sym grown.size);
       watched = subst (λ (ps : List WatchedPair). AreWatched table (lists_of watches) ps) (sym pairs)
-          (record { attached = it.watched.attached; own = it.watched.own; two = it.watched.two; constant = it.watched.constant; blockers = blockers });
+          (record { attached = it.watched.attached; own = it.watched.own; two = it.watched.two; constant = it.watched.constant; fit = fit });
       late = late-kept table old new _ keeps it.late;
       pending = subst (λ (ps : List WatchedPair). All (λ n. n < length ps) (pending_of p)) (sym pairs) it.pending;
       inside = subst (λ (ps : List WatchedPair). All (λ (l : Late). l.number < length ps) (late_of p)) (sym pairs) it.inside;
@@ -87,10 +86,14 @@ module _ (old new : List (List Literal)) (longer : length old ≤ length new)
     rising = are.rising;
   }
 
-  blockers-longer : (lists : List (Vec Watch Global)) → HasBlockers old lists → HasBlockers new lists
-  blockers-longer lists are = λ list k d below.
-      let here = are list k d below in
-      subst (λ (c : List Literal). Contains c (get_or (list_at lists list) k d).blocker) (sym (same _ (within-contains old _ _ here))) here
+  fit-longer : (lists : List (Vec Watch Global)) → FitClauses old lists → FitClauses new lists
+  fit-longer lists fit = λ list k d below.
+      let here = fit list k d below in
+      let as_before = same _ (within-contains old _ _ here.own) in
+      record {
+        own = subst (λ (c : List Literal). Contains c (blocker_of (get_or (list_at lists list) k d))) (sym as_before) here.own;
+        two = λ e. ap (λ (c : List Literal). length c) as_before ∙ here.two e;
+      }
 
   covers-longer : (trail : Trail) (pairs : List WatchedPair) (late : List Late) (pending : List ℕ) (head : ℕ) → length pairs ≤ length old →
       Covers old trail pairs late pending head → Covers new trail pairs late pending head
@@ -460,9 +463,9 @@ module _ (table : List (List Literal)) (clause : List Literal) (pairs : List Wat
   added-before number less = clause_at-push table clause number (omega (arith, less, size))
 
   watched-added : (pair : Option (Literal × Literal)) (old new : List (Vec Watch Global)) →
-      MatchOption pair (IsConstant clause) (λ two. AreApart clause two.0 two.1) → HasBlockers added new → AreWatched table old pairs →
+      MatchOption pair (IsConstant clause) (λ two. AreApart clause two.0 two.1) → FitClauses added new → AreWatched table old pairs →
       AreWatched added new (pairs ++ pair_from pair ∷ [])
-  watched-added pair old new chosen blockers are = record {
+  watched-added pair old new chosen fit are = record {
     attached = length-append pairs (pair_from pair ∷ []) ∙ ap (λ (n : ℕ). n + 1) size ∙ sym (length-append table (clause ∷ []));
     own = λ number literal watching. ⊎_elim
         (λ (w : (number < length pairs) × IsWatching pairs number literal).
@@ -486,18 +489,19 @@ module _ (table : List (List Literal)) (clause : List Literal) (pairs : List Wat
         subst (λ (c : List Literal). IsConstant c) (sym (ap (λ (n : ℕ). clause_at added n) (sym end) ∙ added-at))
         (pair-constant _ pair chosen (sym (pair-last pairs (pair_from pair) number end) ∙ is)))
         (cases_lt number (length pairs));
-    blockers = blockers;
+    fit = fit;
   }
 
 pub attached-added : (table : List (List Literal)) (clause : List Literal) (trail : Trail) (p : Propagator) (watches : Watches)
-    (pending : Vec ℕ Global) (pair : Option (Literal × Literal)) → pairs_of watches ≡ pairs_of p.watches ++ pair_from pair ∷ [] →
+    (pending : Vec ℕ Global) (pair : Option (Literal × Literal)) (binary : Bool) → pairs_of watches ≡ pairs_of p.watches ++ pair_from pair ∷ [] →
     length (lists_of watches) ≡ length (lists_of p.watches) →
     (((first second : Literal) → pair ≡ Some (first, second) → Contains (clause_at (table ++ clause ∷ []) (attached_of p)) first ×
-    Contains (clause_at (table ++ clause ∷ []) (attached_of p)) second) → HasBlockers (table ++ clause ∷ []) (lists_of p.watches) →
-    HasBlockers (table ++ clause ∷ []) (lists_of watches)) →
+    Contains (clause_at (table ++ clause ∷ []) (attached_of p)) second) →
+    (binary ≡ true → length (clause_at (table ++ clause ∷ []) (attached_of p)) ≡ 2) → FitClauses (table ++ clause ∷ []) (lists_of p.watches) →
+    FitClauses (table ++ clause ∷ []) (lists_of watches)) → binary ≡ eqb (length clause) 2 →
     pending.items ≡ pending_of p ++ attached_of p ∷ [] → MatchOption pair (IsConstant clause) (λ two. AreApart clause two.0 two.1) →
     IsPropagator table trail p → IsPropagator (table ++ clause ∷ []) trail (record p { watches = watches; pending = pending })
-attached-added table clause trail p watches pending pair pairs lists blockers is chosen it =
+attached-added table clause trail p watches pending pair binary pairs lists fit tested is chosen it =
     let more = table ++ clause ∷ [] in
     let before = pairs_of p.watches in
     let size = it.watched.attached in
@@ -509,7 +513,9 @@ attached-added table clause trail p watches pending pair pairs lists blockers is
     subst (λ (c : List Literal). Contains c first × Contains c second) (sym (added-at table clause before size))
     (pair-has clause pair first second e chosen)
     in
-    let now = blockers here (blockers-longer table more longer same (lists_of p.watches) it.watched.blockers) in
+    let two : binary ≡ true → length (clause_at more (attached_of p)) ≡ 2 = λ e.
+    ap (λ (c : List Literal). length c) (added-at table clause before size) ∙ eqb-true (length clause) 2 (sym tested ∙ e) in
+    let now = fit here two (fit-longer table more longer same (lists_of p.watches) it.watched.fit) in
     let covers = covers-longer table more longer same trail before (late_of p) (pending_of p) (head_of p) (omega (arith, size)) it.covers in
     record {
       lists = lists ∙ it.lists;

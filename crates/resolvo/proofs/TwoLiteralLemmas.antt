@@ -1,5 +1,5 @@
 -- A clause of two literals, one of which is false.
-use Rattle.std.proofs.Common.{◌≡◌, ◌≢◌, ℕ, zero, suc, ◌<◌, ◌⊎◌, List, [], ◌∷◌, length, get_or, Some, false, inl, inr}
+use Rattle.std.proofs.Common.{◌≡◌, ◌≢◌, ℕ, zero, suc, ◌<◌, ◌⊎◌, List, [], ◌∷◌, length, get_or, Some, None, false, inl, inr}
 use Rattle.std.proofs.Common.{sym, ap, ◌∙◌, ⊎_elim, arith}
 use Rattle.std.specs.Prelude.{All, Contains}
 use Rattle.std.proofs.lemmas.List.Elements.{All-cons, All-nil}
@@ -7,6 +7,7 @@ use Rattle.resolver_clause_store.specs.declared.Literal.{Literal}
 use Rattle.resolver_clause_store.specs.declared.Trail.{Trail}
 use Rattle.resolver_clause_store.specs.Formula.{clause_at}
 use Rattle.resolver_clause_store.specs.TrailView.{literal_value}
+use Rattle.resolver_clause_store.specs.Watches.{IsWatching}
 use Rattle.resolver_clause_store.specs.WatchesView.{pairs_of}
 use Rattle.resolvo.specs.Propagation.{IsUnit}
 use Rattle.resolvo.specs.Visits.{IsPaired, IsVisiting}
@@ -44,6 +45,11 @@ two-unit trail clause falsified other two differ own there fails k d below =
     (λ (e : get_or clause k d ≡ other). inl e)
     (two_all clause falsified other two differ own there k d below)
 
+-- a literal without a value is not the false one
+pub values-differ : (trail : Trail) (falsified other : Literal) → literal_value trail falsified ≡ Some false → literal_value trail other ≡ None →
+    falsified ≢ other
+values-differ trail falsified other fails free same = absurd cc
+
 module _ (table : List (List Literal)) (trail : Trail) (it : Propagator) (falsified : FalseLiteral) (place : ℕ)
     (visiting : IsVisiting table trail it falsified place) where
   pub false-now : literal_value trail falsified.literal ≡ Some false
@@ -54,3 +60,10 @@ module _ (table : List (List Literal)) (trail : Trail) (it : Propagator) (falsif
       Contains (clause_at table number) falsified.literal
   own-false number other pair = visiting.propagator.watched.own number falsified.literal
       (paired-other _ number other falsified.literal (⊎_elim (λ e. inr e) (λ e. inl e) pair.is))
+
+  -- a watching clause of two literals is unit if the other one has no value
+  pub binary-unit : (number : ℕ) (other : Literal) → IsWatching (pairs_of it.watches) number falsified.literal → Contains (clause_at table number) other →
+      length (clause_at table number) ≡ 2 → literal_value trail other ≡ None → IsUnit trail other (clause_at table number)
+  binary-unit number other watching has two free =
+      two-unit trail (clause_at table number) falsified.literal other two (values-differ trail falsified.literal other false-now free)
+      (visiting.propagator.watched.own number falsified.literal watching) has false-now

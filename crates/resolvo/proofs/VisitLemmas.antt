@@ -21,7 +21,7 @@ use Rattle.resolver_clause_store.proofs.TrailLemmas.{Keeps, gains-cases, keeps-g
 use Rattle.resolvo.specs.Propagators.{AreLate, AreWatched, Covers, IsExcused, IsNoted, IsPropagator, IsTrueAt, IsTrueBefore, WatchesTwo, attached_of, head_of}
 use Rattle.resolvo.specs.Propagators.{late_of, pending_of}
 use Rattle.resolvo.specs.Visits.{GoesOn, IsPaired, IsVisiting, Replaces, StandsAt, watchers_of}
-use Rattle.resolver_clause_store.specs.Watches.{HasBlockers, IsPair, IsWatching, MovesWatch, SameClauses, list_at, list_number, pair_at, unwatched}
+use Rattle.resolver_clause_store.specs.Watches.{FitClauses, IsPair, IsWatching, MovesWatch, SameClauses, list_at, list_number, pair_at, unwatched}
 use Rattle.resolver_clause_store.specs.Watches.{watched_pair}
 use Rattle.resolver_clause_store.specs.WatchesView.{lists_of, pairs_of}
 use Rattle.resolvo.specs.declared.propagator.Late.{Late}
@@ -180,8 +180,8 @@ with_watches it watches = record { watches = watches; late = it.late; pending = 
 -- a new blocker
 pub sets : (table : List (List Literal)) (trail : Trail) (old : Propagator) (watches : Watches) (falsified : FalseLiteral) (place : ℕ) →
     IsVisiting table trail old falsified place → SameClauses (lists_of old.watches) (lists_of watches) → pairs_of watches ≡ pairs_of old.watches →
-    HasBlockers table (lists_of watches) → IsVisiting table trail (with_watches old watches) falsified place
-sets table trail old watches falsified place v same pairs blockers =
+    FitClauses table (lists_of watches) → IsVisiting table trail (with_watches old watches) falsified place
+sets table trail old watches falsified place v same pairs fit =
     let was = v.propagator in
     let w = was.watched in
     let back = sym pairs in
@@ -194,7 +194,7 @@ sets table trail old watches falsified place v same pairs blockers =
       below = v.below;
       propagator = record {
         lists = same.size ∙ was.lists;
-        watched = subst A back (record { attached = w.attached; own = w.own; two = w.two; constant = w.constant; blockers = blockers });
+        watched = subst A back (record { attached = w.attached; own = w.own; two = w.two; constant = w.constant; fit = fit });
         late = was.late;
         pending = subst N back was.pending;
         inside = subst L back was.inside;
@@ -276,9 +276,9 @@ paired table lists pairs number literal found w inside watching only =
 pub moves : (table : List (List Literal)) (trail : Trail) (old : Propagator) (watches : Watches) (falsified : FalseLiteral) (place number : ℕ)
     (other to : Literal) → IsVisiting table trail old falsified place →
     MovesWatch (lists_of old.watches) (lists_of watches) (pairs_of old.watches) (pairs_of watches) falsified.literal to place number →
-    HasBlockers table (lists_of watches) → IsPaired (pairs_of old.watches) number falsified.literal other → Replaces trail (clause_at table number) other to →
+    FitClauses table (lists_of watches) → IsPaired (pairs_of old.watches) number falsified.literal other → Replaces trail (clause_at table number) other to →
     place < length (watchers_of old falsified.literal) → GoesOn table trail old (with_watches old watches) falsified place place
-moves table trail old watches falsified place number other to v m blockers p r within =
+moves table trail old watches falsified place number other to v m fit p r within =
     let was = v.propagator in
     let w = was.watched in
     let before = pairs_of old.watches in
@@ -317,7 +317,7 @@ moves table trail old watches falsified place number other to v m blockers p r w
                 (paired-other after number to other here)))
                 (λ (ne : n ≢ number). w.constant n (omega (arith, inside, m.attached)) (sym (m.others n ne) ∙ none))
                 (cases_eq n number);
-            blockers = blockers;
+            fit = fit;
           };
           late = was.late;
           pending = λ k d below. omega (arith, was.pending k d below, m.attached);
@@ -446,11 +446,6 @@ pub makes-true : (table : List (List Literal)) (trail : Trail) (number : ℕ) (l
     literal_value trail literal ≡ Some true → IsSatisfied trail (clause_at table number)
 makes-true table trail number literal c is = any-contains (λ (l : Literal). literal_value trail l ≡ Some true) (clause_at table number) literal c is
 
-pub blocker-own : (table : List (List Literal)) (lists : List (Vec Watch Global)) (list place : ℕ) (watch : Watch) → HasBlockers table lists →
-    slice_get (list_at lists list) place ≡ Some watch → Contains (clause_at table watch.number) watch.blocker
-blocker-own table lists list place watch blockers at =
-    all-at (λ (w : Watch). Contains (clause_at table w.number) w.blocker) (list_at lists list) place watch (blockers list) at
-
 -- a value that passed a test for true
 pub tested-true : (o value : Option Bool) → true ≡ option_eq beq o (Some true) → o ≡ value → value ≡ Some true
 tested-true None value test same = absurd cc
@@ -460,8 +455,8 @@ tested-true (Some false) value test same = absurd cc
 pub moves-stands : (table : List (List Literal)) (trail : Trail) (old : Propagator) (watches : Watches) (falsified : FalseLiteral) (place number : ℕ)
     (other to : Literal) → IsVisiting table trail old falsified place → (stands : StandsAt (watchers_of old falsified.literal) place number) →
     MovesWatch (lists_of old.watches) (lists_of watches) (pairs_of old.watches) (pairs_of watches) falsified.literal to place stands.watch.number →
-    HasBlockers table (lists_of watches) → IsPaired (pairs_of old.watches) number falsified.literal other → Replaces trail (clause_at table number) other to →
+    FitClauses table (lists_of watches) → IsPaired (pairs_of old.watches) number falsified.literal other → Replaces trail (clause_at table number) other to →
     GoesOn table trail old (with_watches old watches) falsified place place
-moves-stands table trail old watches falsified place number other to v stands m blockers p r =
+moves-stands table trail old watches falsified place number other to v stands m fit p r =
     let M : ℕ → Type 0 = λ n. MovesWatch (lists_of old.watches) (lists_of watches) (pairs_of old.watches) (pairs_of watches) falsified.literal to place n in
-    moves table trail old watches falsified place number other to v (subst M stands.named m) blockers p r (slice_get_within _ place stands.watch stands.is)
+    moves table trail old watches falsified place number other to v (subst M stands.named m) fit p r (slice_get_within _ place stands.watch stands.is)

@@ -8,7 +8,7 @@ use Rattle.resolver_clause_store.specs.declared.Trail.{Trail}
 use Rattle.resolver_clause_store.specs.Formula.{clause_at}
 use Rattle.resolver_clause_store.specs.Outcomes.{IsFalseBefore}
 use Rattle.resolver_clause_store.specs.TrailView.{slot_of, length_of, variable_count}
-use Rattle.resolver_clause_store.specs.Watches.{HasBlockers, IsWatching, pair_at, unwatched, watched_pair}
+use Rattle.resolver_clause_store.specs.Watches.{FitClauses, IsWatching, pair_at, unwatched, watched_pair}
 use Rattle.resolver_clause_store.specs.WatchesView.{lists_of, pairs_of}
 use Rattle.resolver_clause_store.specs.declared.Watch.{Watch}
 use Rattle.resolver_clause_store.specs.declared.WatchedPair.{WatchedPair}
@@ -62,7 +62,7 @@ pub record AreWatched (table : List (List Literal)) (lists : List (Vec Watch Glo
   pub own : (number : ℕ) (literal : Literal) → IsWatching pairs number literal → Contains (clause_at table number) literal
   pub two : (number : ℕ) → number < length pairs → (pair_at pairs number ≡ unwatched) ⊎ WatchesTwo (pair_at pairs number)
   pub constant : (number : ℕ) → number < length pairs → pair_at pairs number ≡ unwatched → IsConstant (clause_at table number)
-  pub blockers : HasBlockers table lists
+  pub fit : FitClauses table lists
 
 -- each of these clauses has a literal that is true before the noted place; the noted places never fall
 pub record AreLate (table : List (List Literal)) (trail : Trail) (late : List Late) : Type 0 where

@@ -140,7 +140,8 @@ impl Propagator {
         ensures own { OnOk result (OwnsPair literals.now (pair_at (pairs_of self.new.watches) (attached_of self.old))) }
     {
         let number = narrow(self.watches.len())?;
-        self.watches.add(pair_of(trail, literals))?;
+        self.watches
+            .add(pair_of(trail, literals), literals.len() == 2)?;
         self.pending.push(number)?;
         Ok(())
     }

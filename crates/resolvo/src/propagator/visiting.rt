@@ -1,6 +1,6 @@
 //! Visits to the clauses that watch a literal which has become false.
 
-ghost use Rattle.std.specs.Prelude.{◌≡◌, ◌≢◌, ◌+◌, ◌<◌, ◌≤◌, ◌++◌, ◌∷◌, [], false, true, Contains, IfNone, IfOk, IfSome, MatchOption, OnErr, OnOk, Some, if◌then◌else◌, length};
+ghost use Rattle.std.specs.Prelude.{◌≡◌, ◌≢◌, ◌+◌, ◌<◌, ◌≤◌, ◌++◌, ◌∷◌, [], false, true, Contains, IfNone, IfOk, IfSome, MatchOption, None, OnErr, OnOk, Some, if◌then◌else◌, length};
 ghost use Rattle.resolver_clause_store.specs.Formula.{AreBelow, IsBelow, clause_at};
 ghost use Rattle.resolver_clause_store.specs.Outcomes.{IsSatisfied};
 ghost use Rattle.resolver_clause_store.specs.TrailView.{length_of, literal_value, open_count, variable_count};
@@ -10,7 +10,7 @@ ghost use Rattle.resolver_clause_store.specs.Settled.{AllSettled};
 ghost use Rattle.resolvo.specs.Propagators.{IsAttached, IsPropagator};
 ghost use Rattle.resolvo.specs.Visits.{FailsAt, IsPaired, IsVisiting, WatchOutcomeIs, Replaces, StandsAt};
 ghost use Rattle.resolvo.specs.WatchedClauses.{AreOwned};
-ghost use Rattle.resolver_clause_store.specs.Watches.{IsPair};
+ghost use Rattle.resolver_clause_store.specs.Watches.{IsPair, IsWatching};
 ghost use Rattle.resolver_clause_store.specs.WatchesView.{pairs_of};
 
 use super::{Late, Propagator};
@@ -32,7 +32,7 @@ pub struct Watcher {
     number: usize,
     /// Its place in the literal's list.
     place: usize,
-    /// The other literal that it watches.
+    /// Another literal of the clause: the other one that it watches, or the blocker.
     other: Literal,
 }
 
@@ -94,6 +94,13 @@ fn replacement(
         return None;
     }
     first_replacement(trail, clause, other)
+}
+
+/// Returns whether the other literal of a clause of two is known to be forced, by its value.
+fn is_forced(is_binary: bool, value: Option<bool>) -> bool
+    ensures { result ≡ true → (is_binary ≡ true) × (value ≡ None) }
+{
+    is_binary && value.is_none()
 }
 
 impl Propagator {
@@ -261,7 +268,73 @@ impl Propagator {
         }
     }
 
+    /// Visits a watcher by the two literals that its clause watches.
+    fn visit_pair(
+        &mut self,
+        trail: &mut Trail,
+        table: &Clauses,
+        falsified: &FalseLiteral,
+        place: usize,
+        number: usize,
+    ) -> Result<WatchOutcome, AllocError>
+        requires visiting { IsVisiting table.now trail.old self.old falsified.now place }
+        requires justified { IsJustified table.now trail.old }
+        requires stands { StandsAt (watchers_of self.old falsified.now.literal) place number }
+        requires inside { number < attached_of self.old }
+        requires watching { IsWatching (pairs_of self.old.watches) number falsified.now.literal }
+        ensures outcome { IfOk result (WatchOutcomeIs table.now trail.new self.old self.new falsified.now place) }
+        ensures refused { OnErr result (AreOwned table.now (pairs_of self.new.watches)) }
+        ensures justified { IsJustified table.now trail.new }
+        ensures extends { Extends trail.old trail.new }
+        ensures size { variable_count trail.new ≡ variable_count trail.old }
+        ensures open { open_count trail.new ≤ open_count trail.old }
+        ensures total { open_count trail.new + length_of trail.new ≡ open_count trail.old + length_of trail.old }
+    {
+        let pair = self.watches.pair(number);
+        let watcher = Watcher {
+            number,
+            place,
+            other: other_watched(&pair, &falsified.literal),
+        };
+        if trail.value(watcher.other) == Some(true) {
+            let outcome = self.pass_by_other(trail, table, falsified, &watcher)?;
+            return Ok(outcome);
+        }
+        let outcome = self.find_replacement(trail, table, falsified, &watcher)?;
+        Ok(outcome)
+    }
+
+    /// Forces the other literal of a clause of two.
+    fn force_binary(
+        &mut self,
+        trail: &mut Trail,
+        table: &Clauses,
+        falsified: &FalseLiteral,
+        binary: &Watcher,
+    ) -> Result<WatchOutcome, AllocError>
+        requires visiting { IsVisiting table.now trail.old self.old falsified.now binary.now.place }
+        requires justified { IsJustified table.now trail.old }
+        requires stands { StandsAt (watchers_of self.old falsified.now.literal) binary.now.place binary.now.number }
+        requires inside { binary.now.number < attached_of self.old }
+        requires watching { IsWatching (pairs_of self.old.watches) binary.now.number falsified.now.literal }
+        requires own { Contains (clause_at table.now binary.now.number) binary.now.other }
+        requires two { length (clause_at table.now binary.now.number) ≡ 2 }
+        requires free { literal_value trail.old binary.now.other ≡ None }
+        ensures outcome { IfOk result (WatchOutcomeIs table.now trail.new self.old self.new falsified.now binary.now.place) }
+        ensures refused { OnErr result (AreOwned table.now (pairs_of self.new.watches)) }
+        ensures justified { IsJustified table.now trail.new }
+        ensures extends { Extends trail.old trail.new }
+        ensures size { variable_count trail.new ≡ variable_count trail.old }
+        ensures open { open_count trail.new ≤ open_count trail.old }
+        ensures total { open_count trail.new + length_of trail.new ≡ open_count trail.old + length_of trail.old }
+    {
+        trail.force(binary.other, binary.number)?;
+        let outcome = self.pass_by(trail, table, falsified, binary.place, binary.number)?;
+        Ok(outcome)
+    }
+
     /// Visits the watcher at a place in the list of a literal that has become false.
+    #[inline(always)]
     fn visit_watcher(
         &mut self,
         trail: &mut Trail,
@@ -281,26 +354,26 @@ impl Propagator {
         ensures total { open_count trail.new + length_of trail.new ≡ open_count trail.old + length_of trail.old }
     {
         let watch = self.watches.watch_at(falsified.literal, place);
-        let number = watch.number as usize;
-        if trail.value(watch.blocker) == Some(true) {
-            let outcome = self.pass_by(trail, table, falsified, place, number)?;
-            return Ok(outcome);
-        }
-        let pair = self.watches.pair(number);
         let watcher = Watcher {
-            number,
+            number: watch.number as usize,
             place,
-            other: other_watched(&pair, &falsified.literal),
+            other: watch.blocker(),
         };
-        if trail.value(watcher.other) == Some(true) {
-            let outcome = self.pass_by_other(trail, table, falsified, &watcher)?;
+        let value = trail.value(watcher.other);
+        if value == Some(true) {
+            let outcome = self.pass_by(trail, table, falsified, place, watcher.number)?;
             return Ok(outcome);
         }
-        let outcome = self.find_replacement(trail, table, falsified, &watcher)?;
+        if is_forced(watch.is_binary, value) {
+            let outcome = self.force_binary(trail, table, falsified, &watcher)?;
+            return Ok(outcome);
+        }
+        let outcome = self.visit_pair(trail, table, falsified, place, watcher.number)?;
         Ok(outcome)
     }
 
     /// Visits each watcher of the literal that became false at the head, and moves the head on by one.
+    #[inline(always)]
     fn visit(&mut self, trail: &mut Trail, table: &Clauses) -> Result<Option<usize>, AllocError>
         requires below { AreBelow (variable_count trail.old) table.now }
         requires propagator { IsPropagator table.now trail.old self.old }

@@ -13,7 +13,7 @@ returns-in_ok-move_watch-in-Some-clause-outcome c =
     let moved = c.in_ok-move_watch-in-Some.ensures in
     let own = stands-own _ _ _ _ _ stands (own-other _ _ _ _ _ _ was c.requires.pair) in
     moves-stands _ _ _ _ _ _ _ _ _ c.requires.visiting stands (moved.moved stands.watch stands.is)
-    (moved.blockers _ stands.watch stands.is own was.watched.blockers) c.requires.pair (rw c.clause-literals.ensures at c.in-Some.ensures)
+    (moved.fit _ stands.watch stands.is own was.watched.fit) c.requires.pair (rw c.clause-literals.ensures at c.in-Some.ensures)
 
 pub returns-in_ok-outcome-in-None-clause-extends : goal.returns-in_ok-outcome-in-None-clause-extends
 returns-in_ok-outcome-in-None-clause-extends c = grind (arith, common_steps)

@@ -9,7 +9,7 @@ pass_by-requires-clause-visiting c =
     let was = c.requires.visiting.propagator in
     let own = stands-own _ _ _ _ _ c.requires.stands (own-other _ _ _ _ _ _ was c.requires.pair) in
     sets _ _ _ _ _ _ c.requires.visiting c.set_blocker.ensures.same c.set_blocker.ensures.pairs
-    (c.set_blocker.ensures.blockers _ c.requires.stands.watch c.requires.stands.is own was.watched.blockers)
+    (c.set_blocker.ensures.fit _ c.requires.stands.watch c.requires.stands.is own was.watched.fit)
 
 pub pass_by-requires-clause-stands : goal.pass_by-requires-clause-stands
 pass_by-requires-clause-stands c = stands-same _ _ _ _ _ c.set_blocker.ensures.same c.requires.stands
