@@ -54,6 +54,7 @@ impl<N: Copy + Eq + Hash + Drop, S: Copy + Eq + Hash + Drop> Cache<N, S> {
     }
 
     /// Fetches the candidates of a package.
+    #[inline(always)]
     pub fn fetch_candidates<D: DependencyProvider<NameId = N, SolvableId = S>>(
         &mut self,
         provider: &D,
@@ -145,6 +146,7 @@ impl<N: Copy + Eq + Hash + Drop, S: Copy + Eq + Hash + Drop> Cache<N, S> {
     }
 
     /// Fetches the candidates in a version set, in the order in which they are to be tried.
+    #[inline(always)]
     pub fn fetch_sorted<D: DependencyProvider<NameId = N, SolvableId = S>>(
         &mut self,
         provider: &D,

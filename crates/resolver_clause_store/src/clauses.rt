@@ -102,6 +102,7 @@ impl Clauses {
     /// Appends a clause with these literals. An error changes nothing.
     ///
     /// If all clauses together had 2^32 literals or more, the call is refused as for lack of memory.
+    #[inline(always)]
     pub fn push(&mut self, literals: &[Literal]) -> Result<(), AllocError>
         ensures items { OnOk result (self.new ≡ self.old ++ literals.now ∷ []) }
         ensures unchanged { OnErr result (self.new ≡ self.old) }

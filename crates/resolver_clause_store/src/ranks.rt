@@ -79,6 +79,26 @@ pub struct Entry {
     is_union: bool,
 }
 
+/// Notes that a requirement has to be ranked again, if it is active.
+fn change_active(
+    entries: &mut Vec<Entry>,
+    changed: &mut Vec<u32>,
+    active: &[u32],
+    requirement: u32,
+) -> Result<(), AllocError> {
+    let index = requirement as usize;
+    if index >= entries.len() || entries[index].is_changed {
+        return Ok(());
+    }
+    let place = entries[index].place as usize;
+    if place >= active.len() || active[place] != requirement {
+        return Ok(());
+    }
+    changed.push(requirement)?;
+    entries[index].is_changed = true;
+    Ok(())
+}
+
 /// The ranks of active requirements.
 ///
 /// A requirement is ranked again when a variable of one of its packages gets or loses its value, and when the score of
@@ -315,24 +335,10 @@ impl Ranks {
         if number < self.is_touched.len() {
             self.is_touched[number] = false;
         }
-        'requirements: for index in 0..self.asking.at(number).len() {
-            self.spread_at(active, number, index)?;
+        'requirements: for requirement in self.asking.at(number) {
+            change_active(&mut self.entries, &mut self.changed, active, *requirement)?;
         }
         Ok(())
-    }
-
-    /// Notes that one of the requirements of a package has to be ranked again, if it is active.
-    fn spread_at(&mut self, active: &[u32], number: usize, index: usize) -> Result<(), AllocError> {
-        match self.asking.at(number).get(index) {
-            Some(requirement) => {
-                let requirement = *requirement;
-                if self.place_of(active, requirement).is_some() {
-                    self.change(requirement)?;
-                }
-                Ok(())
-            }
-            None => Ok(()),
-        }
     }
 
     /// Notes that the requirements of touched packages have to be ranked again.
@@ -430,11 +436,13 @@ impl Ranks {
 
     /// Returns whether a rank is the latest one of an active requirement.
     fn is_current(&self, active: &[u32], rank: &Rank) -> bool {
-        if self.place_of(active, rank.requirement).is_none() {
-            return false;
-        }
         match self.entries.get(rank.requirement as usize) {
-            Some(entry) => entry.edition == rank.edition,
+            Some(entry) => {
+                let place = entry.place as usize;
+                entry.edition == rank.edition
+                    && place < active.len()
+                    && active[place] == rank.requirement
+            }
             None => false,
         }
     }

@@ -60,6 +60,7 @@ impl<N: Copy + Eq + Hash + Drop, S: Copy + Eq + Hash + Drop> Variables<N, S> {
     ///
     /// The error is `Ids` if a new variable is needed and there are as many as the limit allows. An error changes
     /// nothing.
+    #[inline(always)]
     pub fn intern(&mut self, origin: Origin<N, S>) -> Result<Variable, Exhausted>
         requires names { IsIdentity N.eq }
         requires solvables { IsIdentity S.eq }

@@ -99,6 +99,7 @@ impl<N: Copy + Eq + Hash + Drop, S: Copy + Eq + Hash + Drop> Encoding<N, S> {
     }
 
     /// Adds a clause that lists no candidates. Its literals follow from its kind.
+    #[inline(always)]
     fn add(&mut self, kind: ClauseKind<N, S>) -> Result<(), Exhausted>
         requires names { IsIdentity N.eq }
         requires solvables { IsIdentity S.eq }

@@ -381,6 +381,7 @@ impl ClauseSearch {
     }
 
     /// Loads the requirements after those that are loaded.
+    #[inline(always)]
     fn load_requirements(
         &mut self,
         requirements: &[RequirementClause],

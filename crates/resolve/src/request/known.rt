@@ -108,6 +108,7 @@ impl Request {
     }
 
     /// Returns the solvable of the first word, if it was declared, and the rest after the space.
+    #[inline(always)]
     fn known_solvable<'a>(
         &mut self,
         known: &mut KnownWords<'a>,
@@ -164,6 +165,7 @@ impl Request {
     }
 
     /// Returns the version set of a spec, if the word is a spec.
+    #[inline(always)]
     fn known_version_set<'a>(
         &mut self,
         known: &mut KnownWords<'a>,

@@ -119,6 +119,7 @@ impl<N: Copy + Eq + Hash + Drop, S: Copy + Eq + Hash + Drop> Encoding<N, S> {
     }
 
     /// Registers a candidate, if it is new: it gets a variable, a number under its name, and the clauses of its code.
+    #[inline(always)]
     pub(super) fn see<D: DependencyProvider<NameId = N, SolvableId = S>>(
         &mut self,
         provider: &D,

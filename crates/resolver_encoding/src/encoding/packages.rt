@@ -139,6 +139,7 @@ impl<N: Copy + Eq + Hash + Drop, S: Copy + Eq + Hash + Drop> Encoding<N, S> {
     ///
     /// No solvable is read or registered. Packages that a requirement or a constraint names are asked when that is
     /// read; this call is for packages that a soft requirement names.
+    #[inline(always)]
     pub fn ask<D: DependencyProvider<NameId = N, SolvableId = S>>(
         &mut self,
         provider: &D,

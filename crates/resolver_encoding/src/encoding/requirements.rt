@@ -46,6 +46,7 @@ impl<N: Copy + Eq + Hash + Drop, S: Copy + Eq + Hash + Drop> Encoding<N, S> {
     ghost use Rattle.resolver_encoding.specs.Notes.{IsBounded, KeepsRoom, notes_in};
 
     /// Encodes a requirement under a disjunct of its condition, with candidates that are registered.
+    #[inline(always)]
     fn encode_choices<D: DependencyProvider<NameId = N, SolvableId = S>>(
         &mut self,
         provider: &D,

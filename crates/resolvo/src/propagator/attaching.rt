@@ -90,6 +90,7 @@ impl Propagator {
 
 impl Propagator {
     /// Pops a pending clause that is satisfied.
+    #[inline(always)]
     fn pass(&mut self, trail: &Trail, number: usize) -> Result<(), AllocError>
         requires last { EndsWith (pending_of self.old) number }
         requires inside { number < attached_of self.old }
