@@ -28,7 +28,7 @@ IsTrueCache-empty u c packages matching non_matching sorted dependencies = recor
   dependencies = All-same (λ e. needs_of e.1 ≡ u.needs e.0) _ _ dependencies (All-nil _);
 }
 
--- the candidates and the favored one of a package, under another name of the same package
+-- the candidates of a package, under another name of the same package
 module _ {N S : Type 0} (u : Universe N S) (answer : Candidates S) (n m : N) (is : package_of (Some answer) ≡ u.package_named n) (same : n ≡ m) where
   package_at : package_of (Some answer) ≡ u.package_named m
   package_at = is ∙ ap u.package_named same
@@ -36,15 +36,12 @@ module _ {N S : Type 0} (u : Universe N S) (answer : Candidates S) (n m : N) (is
   pub listed_at : (xs : List S) → xs ≡ answer.candidates.items → xs ≡ (u.package_named m).listed
   listed_at xs held = held ∙ ap (λ (p : Package S). p.listed) package_at
 
-  pub favored_at : answer.favored ≡ (u.package_named m).favored
-  favored_at = ap (λ (p : Package S). p.favored) package_at
-
--- the candidates that match a version set, sorted and with the favored one first
-pub sorted_at : {N S : Type 0} (u : Universe N S) (v : VersionSetId) (items xs : List S) (favored : Option S) →
-    items ≡ favored_first u favored (u.sorted_of xs) → favored ≡ (u.package_named (u.version_set_name v)).favored → xs ≡ matching_in u v →
-    items ≡ sorted_candidates u v
-sorted_at u v items xs favored is same_favored same_list = is ∙ ap (λ f. favored_first u f (u.sorted_of xs)) same_favored ∙
-    ap (λ ys. favored_first u (u.package_named (u.version_set_name v)).favored (u.sorted_of ys)) same_list
+-- the candidates of a package that match a version set, sorted and with the favored one first
+pub sorted_at : {N S : Type 0} (u : Universe N S) (v : VersionSetId) (listing : Candidates S) (n : N) (items : List S) →
+    package_of (Some listing) ≡ u.package_named n → n ≡ u.version_set_name v →
+    items ≡ favored_first u listing.favored (u.sorted_of (u.matching_of listing.candidates.items v)) → items ≡ sorted_candidates u v
+sorted_at {S = S} u v listing n items answered named is =
+    is ∙ ap (λ (p : Package S). favored_first u p.favored (u.sorted_of (u.matching_of p.listed v))) (package_at u listing n _ answered named)
 
 -- answers stay over two steps, and over none
 pub KeepsAnswers-trans : {N S : Type 0} (before between after : Cache N S) → KeepsAnswers before between → KeepsAnswers between after →

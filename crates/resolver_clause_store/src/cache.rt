@@ -162,11 +162,9 @@ impl<N: Copy + Eq + Hash + Drop, S: Copy + Eq + Hash + Drop> Cache<N, S> {
             return Ok(());
         }
         let name = provider.version_set_name(version_set);
-        self.fetch_matching(provider, version_set)?;
         self.fetch_candidates(provider, name)?;
-        let favored = self.candidates(name).favored;
-        let taken = self.matching(version_set);
-        let sorted = sorted_favored_first(self.alloc, provider, taken, favored)?;
+        let listing = self.candidates(name);
+        let sorted = sorted_favored_first(self.alloc, provider, listing, version_set)?;
         self.sorted.insert(version_set, sorted)?;
         Ok(())
     }

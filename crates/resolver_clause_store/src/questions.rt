@@ -7,6 +7,7 @@ ghost use Rattle.resolver_clause_store.specs.Lists.{moved_to_front};
 ghost use Rattle.resolver_clause_store.specs.Universe.{needs_of, package_of};
 
 use crate::data::{Candidates, Dependencies, Exhausted, HintDependenciesAvailable, Interrupted};
+use crate::ids::VersionSetId;
 use crate::provider::{DependencyProvider, Interner};
 use std::alloc::Global;
 
@@ -63,16 +64,20 @@ pub(crate) fn fetch_dependencies<D: DependencyProvider>(
 }
 
 /// Returns the list with `first` in front, if the list has it.
-fn with_first<S: Copy + Eq + Drop>(alloc: Global, list: &[S], first: S) -> Result<Vec<S>, Exhausted>
-    ensures value { IfOk result (λ moved. moved.items ≡ moved_to_front S.eq first list.now) }
+fn with_first<S: Copy + Eq + Drop>(
+    alloc: Global,
+    list: Vec<S>,
+    first: S,
+) -> Result<Vec<S>, Exhausted>
+    ensures value { IfOk result (λ moved. moved.items ≡ moved_to_front S.eq first list.items) }
     ensures memory { IfErr result (λ e. e ≡ Exhausted.Memory) }
 {
     if !list.contains(&first) {
-        return Ok(Vec::from_slice(alloc, list)?);
+        return Ok(list);
     }
     let mut moved = Vec::new(alloc);
     moved.push(first)?;
-    for x in list {
+    for x in &list {
         if *x != first {
             moved.push(*x)?;
         }
@@ -80,20 +85,23 @@ fn with_first<S: Copy + Eq + Drop>(alloc: Global, list: &[S], first: S) -> Resul
     Ok(moved)
 }
 
-/// Returns the candidates sorted by the provider, with the favored one in front if it is among them.
+/// Returns the listed candidates in a version set, sorted by the provider, with the favored one in front if it is among
+/// them.
 pub(crate) fn sorted_favored_first<D: DependencyProvider>(
     alloc: Global,
     provider: &D,
-    candidates: &[D::SolvableId],
-    favored: Option<D::SolvableId>,
+    listing: &Candidates<D::SolvableId>,
+    version_set: VersionSetId,
 ) -> Result<Vec<D::SolvableId>, Exhausted>
-    ensures value { let u = D.universe provider.now in IfOk result (λ sorted. sorted.items ≡ favored_first u favored (u.sorted_of candidates.now)) }
+    ensures value { let u = D.universe provider.now in IfOk result (λ sorted. sorted.items ≡
+        favored_first u listing.now.favored (u.sorted_of (u.matching_of listing.now.candidates.items version_set))) }
     ensures memory { IfErr result (λ e. e ≡ Exhausted.Memory) }
 {
-    let mut sorted = Vec::from_slice(alloc, candidates)?;
+    let mut sorted = provider.filter_candidates(&listing.candidates, version_set, false)?;
     provider.sort_candidates(&mut sorted)?;
-    match favored {
+    sorted.shrink_to_fit();
+    match listing.favored {
         None => Ok(sorted),
-        Some(first) => with_first(alloc, &sorted, first),
+        Some(first) => with_first(alloc, sorted, first),
     }
 }

@@ -2,7 +2,7 @@ use Rattle.std.proofs.Common.{◌≡◌, sym, ap}
 use Rattle.std.proofs.lemmas.Map.Views.{Contains-keys_from_lookup}
 use Rattle.std.specs.Map.{keys_of}
 use Rattle.resolver_clause_store.specs.Candidates.{sorted_candidates}
-use Rattle.resolver_clause_store.proofs.CacheLemmas.{KeepsAnswers-trans, favored_at, sorted_at}
+use Rattle.resolver_clause_store.proofs.CacheLemmas.{sorted_at}
 use Rattle.resolver_clause_store.proofs.TableLemmas.{IsWithin-same, put_all, put_keys, put_has}
 use Rattle.resolver_clause_store.proofs.VersionSetLemmas.{same_version_set, version_sets_are_values}
 use Rattle.resolver_clause_store.proofs.cache.Cache.fetch_sorted.Goals as goal
@@ -12,7 +12,7 @@ returns-then-contains_key-clause-has g c = Contains-keys_from_lookup version_set
 
 pub returns-in_err-insert-clause-keeps : goal.returns-in_err-insert-clause-keeps
 returns-in_err-insert-clause-keeps g c =
-    let kept = KeepsAnswers-trans _ _ _ c.fetch_matching.ensures.keeps c.fetch_candidates.ensures.keeps in
+    let kept = c.fetch_candidates.ensures.keeps in
     record {
       packages = kept.packages;
       matching = kept.matching;
@@ -25,9 +25,9 @@ pub returns : goal.returns
 returns g c =
     let u = g.D.Interner.universe c.args.provider.now in
     let held = c.fetch_candidates.ensures.is_true in
-    let kept = KeepsAnswers-trans _ _ _ c.fetch_matching.ensures.keeps c.fetch_candidates.ensures.keeps in
-    let favored = favored_at u c.candidates.result.now _ _ (c.candidates.ensures u held) c.version_set_name-name.ensures in
-    let first = sorted_at u c.args.version_set _ _ _ c.in_ok-sorted.ensures.value favored (c.matching-taken.ensures u held) in
+    let kept = c.fetch_candidates.ensures.keeps in
+    let first = sorted_at u c.args.version_set c.candidates-listing.result.now _ _ (c.candidates-listing.ensures u held) c.version_set_name-name.ensures
+    c.in_ok-sorted.ensures.value in
     record {
       is_true = record {
         packages = held.packages;
