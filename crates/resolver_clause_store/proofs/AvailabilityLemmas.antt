@@ -4,7 +4,8 @@ use Rattle.std.specs.Prelude.{Some, is_some, IsTrue, ◌↔◌}
 use Rattle.std.specs.Cmp.{IsEquivalence}
 use Rattle.std.specs.Map.{lookup, keys_of}
 use Rattle.std.proofs.lemmas.Bool.{false≢true}
-use Rattle.std.proofs.lemmas.Map.Views.{IsSome-lookup_from_Contains}
+use Rattle.std.proofs.lemmas.Map.Views.{Contains-keys_from_lookup, IsSome-lookup_from_Contains}
+use Rattle.resolver_clause_store.specs.Laws.{IsIdentity}
 use Rattle.resolver_clause_store.specs.Caches.{Covers, HasCandidates, HasDependencies, IsAvailable, cached, hinted}
 use Rattle.resolver_clause_store.specs.Universe.{Universe, Hint, Package, package_of, hint_of}
 use Rattle.resolver_clause_store.specs.declared.cache.Cache.{Cache}
@@ -14,6 +15,12 @@ use Rattle.resolver_clause_store.specs.declared.data.Candidates.{Candidates}
 pub absent : {K X : Type 0} {same : K → K → Bool} → IsEquivalence same → (k : K) (es : List (K × X)) → is_some (lookup (same k) es) ≡ false →
     Contains (keys_of es) k → ⊥
 absent laws k es none has = false≢true (sym none ∙ IsSome-lookup_from_Contains laws k es has)
+
+-- whether a key is in the table, by a look-up
+pub decided : {K X : Type 0} {same : K → K → Bool} → IsIdentity same → IsEquivalence same → (k : K) (es : List (K × X)) (b : Bool) →
+    b ≡ is_some (lookup (same k) es) → MatchBool b (Contains (keys_of es) k) (Contains (keys_of es) k → ⊥)
+decided identity laws k es true is = Contains-keys_from_lookup identity.alone k es (sym is)
+decided identity laws k es false is = absent laws k es (sym is)
 
 module _ {N S : Type 0} (u : Universe N S) (c : Cache N S) (s : S) where
   pub available_cached : HasDependencies c s → IsTrue true ↔ IsAvailable u c s

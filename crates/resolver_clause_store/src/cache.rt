@@ -1,13 +1,13 @@
 //! The cache of a provider's answers.
 
-ghost use Rattle.std.specs.Prelude.{◌≡◌, ◌↔◌, IfErr, IsTrue, OnOk, Some};
+ghost use Rattle.std.specs.Prelude.{◌≡◌, ◌↔◌, IfErr, IsTrue, MatchBool, OnOk, Some, true};
 ghost use Rattle.resolver_clause_store.specs.Candidates.{matching as matching_in, others, sorted_candidates};
 ghost use Rattle.resolver_clause_store.specs.Interruptions.{IsInterruption};
 ghost use Rattle.resolver_clause_store.specs.Laws.{IsIdentity};
-ghost use Rattle.resolver_clause_store.specs.Universe.{Universe, needs_of, package_of};
+ghost use Rattle.resolver_clause_store.specs.Universe.{Universe, hint_none, needs_of, package_of};
 
 use crate::data::{Candidates, Dependencies, Interrupted};
-use crate::hints::covers;
+use crate::hints::{covers, covers_none};
 use crate::ids::VersionSetId;
 use crate::provider::{DependencyProvider, Interner};
 use crate::questions::{fetch_candidates, fetch_dependencies, sorted_favored_first};
@@ -81,6 +81,15 @@ impl<N: Copy + Eq + Hash + Drop, S: Copy + Eq + Hash + Drop> Cache<N, S> {
         ensures { (u : Universe N S) → IsTrueCache u self.now → package_of (Some result.now) ≡ u.package_named name }
     {
         &self.packages[&name]
+    }
+
+    /// Returns whether a package hints at the dependencies of none of its solvables.
+    pub fn is_without_hints(&self, name: N) -> bool
+        requires names { IsIdentity N.eq }
+        requires has { HasCandidates self.now name }
+        ensures { (u : Universe N S) → IsTrueCache u self.now → result ≡ true → (u.package_named name).hint ≡ hint_none }
+    {
+        covers_none(&self.candidates(name).hint_dependencies_available)
     }
 
     /// Fetches the candidates in a version set.
@@ -204,6 +213,14 @@ impl<N: Copy + Eq + Hash + Drop, S: Copy + Eq + Hash + Drop> Cache<N, S> {
         ensures { (u : Universe N S) → IsTrueCache u self.now → needs_of result.now ≡ u.needs solvable }
     {
         &self.dependencies[&solvable]
+    }
+
+    /// Returns whether the dependencies of a solvable were fetched.
+    pub fn has_dependencies(&self, solvable: S) -> bool
+        requires { IsIdentity S.eq }
+        ensures { MatchBool result (HasDependencies self.now solvable) (HasDependencies self.now solvable → ⊥) }
+    {
+        self.dependencies.contains_key(&solvable)
     }
 
     /// Returns whether the dependencies of a solvable are available: fetched already, or hinted to be cheap.

@@ -1,9 +1,9 @@
 //! Hints about dependencies that are cheap to get.
 
-ghost use Rattle.std.specs.Prelude.{MatchBool};
+ghost use Rattle.std.specs.Prelude.{◌≡◌, MatchBool, true};
 ghost use Rattle.resolver_clause_store.specs.Caches.{Covers};
 ghost use Rattle.resolver_clause_store.specs.Laws.{IsIdentity};
-ghost use Rattle.resolver_clause_store.specs.Universe.{hint_of};
+ghost use Rattle.resolver_clause_store.specs.Universe.{hint_none, hint_of};
 
 use crate::data::HintDependenciesAvailable;
 use crate::sets::has;
@@ -17,5 +17,16 @@ pub(crate) fn covers<S: Eq>(hint: &HintDependenciesAvailable<S>, solvable: &S) -
         HintDependenciesAvailable::None => false,
         HintDependenciesAvailable::All => true,
         HintDependenciesAvailable::Some(solvables) => has(solvables, solvable),
+    }
+}
+
+/// Returns whether a hint says so of no solvable.
+pub(crate) fn covers_none<S>(hint: &HintDependenciesAvailable<S>) -> bool
+    ensures { result ≡ true → hint_of hint.now ≡ hint_none }
+{
+    match hint {
+        HintDependenciesAvailable::None => true,
+        HintDependenciesAvailable::All => false,
+        HintDependenciesAvailable::Some(_) => false,
     }
 }

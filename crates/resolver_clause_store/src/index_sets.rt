@@ -1,6 +1,6 @@
 //! Sets that keep the order in which members were added.
 
-ghost use Rattle.std.specs.Prelude.{◌≡◌, [], ◌∷◌, ◌++◌, Contains, IfErr, IfNone, IfOk, IfSome, MatchBool, Some, length, slice_get, ◌<◌};
+ghost use Rattle.std.specs.Prelude.{◌≡◌, [], ◌∷◌, ◌++◌, Contains, IfErr, IfNone, IfOk, IfSome, MatchBool, Some, length, slice_get, true, ◌<◌};
 ghost use Rattle.resolver_clause_store.specs.Laws.{IsIdentity};
 
 use crate::data::Exhausted;
@@ -25,6 +25,31 @@ pub fn place_of<T: Eq + Hash>(set: &IndexSet<T>, member: &T) -> Option<usize>
     match set.get_index_of(member) {
         Some(index) => Some(index),
         None => None,
+    }
+}
+
+/// Returns the place of a member, if it is in the set. A look-up is quick if the place is the one that is guessed.
+pub fn place_near<T: Eq + Hash>(set: &IndexSet<T>, member: &T, guess: usize) -> Option<usize>
+    requires { IsIdentity T.eq }
+    ensures place { IfSome result (λ i. slice_get set.now.keys i ≡ Some member.now) }
+    ensures inside { IfSome result (λ i. i < length set.now.keys) }
+    ensures absent { IfNone result (Contains set.now.keys member.now → ⊥) }
+{
+    if is_at(set, member, guess) {
+        return Some(guess);
+    }
+    place_of(set, member)
+}
+
+/// Returns whether `member` is in the set at this place.
+pub fn is_at<T: Eq + Hash>(set: &IndexSet<T>, member: &T, place: usize) -> bool
+    requires { IsIdentity T.eq }
+    ensures value { result ≡ true → slice_get set.now.keys place ≡ Some member.now }
+    ensures inside { result ≡ true → place < length set.now.keys }
+{
+    match set.get_index(place) {
+        Some(found) => found == member,
+        None => false,
     }
 }
 

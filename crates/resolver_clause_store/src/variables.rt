@@ -4,7 +4,7 @@ ghost use Rattle.std.specs.Prelude.{Contains, ◌≡◌, ◌<◌, ◌≤◌, ◌
 ghost use Rattle.resolver_clause_store.specs.Laws.{IsIdentity};
 
 use crate::data::Exhausted;
-use crate::index_sets::{append, place_of};
+use crate::index_sets::{append, is_at, place_of};
 use crate::kinds::Origin;
 use crate::literals::Variable;
 use indexmap::IndexSet;
@@ -78,6 +78,31 @@ impl<N: Copy + Eq + Hash + Drop, S: Copy + Eq + Hash + Drop> Variables<N, S> {
             Some(index) => Ok(Variable::new(index as u32)),
             None => self.allocate(origin),
         }
+    }
+
+    /// Returns the variable of an origin like `intern`, and is quick if its number is the one that is guessed.
+    pub fn intern_near(
+        &mut self,
+        origin: Origin<N, S>,
+        guess: usize,
+    ) -> Result<Variable, Exhausted>
+        requires names { IsIdentity N.eq }
+        requires solvables { IsIdentity S.eq }
+        requires bounded { IsBounded self.old }
+        ensures bounded { IsBounded self.new }
+        ensures kept { Keeps (origins_in self.old) (origins_in self.new) }
+        ensures here { IfOk result (λ v. slice_get (origins_in self.new) v ≡ Some origin) }
+        ensures limit { limit_in self.new ≡ limit_in self.old }
+        ensures distinct { AreDistinct (origins_in self.old) → AreDistinct (origins_in self.new) }
+        ensures added { (origins_in self.new ≡ origins_in self.old) ⊎ (origins_in self.new ≡ origins_in self.old ++ origin ∷ []) }
+        ensures unchanged { OnErr result (origins_in self.new ≡ origins_in self.old) }
+        ensures ids { IfErr result (λ e. e ≡ Exhausted.Ids → IsFull self.new) }
+    {
+        if is_at(&self.origins, &origin, guess) {
+            return Ok(Variable::new(guess as u32));
+        }
+        let variable = self.intern(origin)?;
+        Ok(variable)
     }
 
     /// Creates a variable.

@@ -1,9 +1,9 @@
 -- Candidates that are read early, because their dependencies are available.
-use Rattle.std.specs.Prelude.{ℕ, ◌<◌, ◌≤◌, List, [], ◌∷◌, ◌++◌, Option, None, Contains, All, cond, length, slice_get}
+use Rattle.std.specs.Prelude.{◌≡◌, ℕ, ◌<◌, ◌≤◌, List, [], ◌∷◌, ◌++◌, Option, None, Contains, All, cond, length, slice_get}
 use Rattle.std.specs.Option.{option_map_or, option_to_list}
 use Rattle.resolver_clause_store.specs.Caches.{Covers}
 use Rattle.resolver_clause_store.specs.Formula.{clause_at}
-use Rattle.resolver_clause_store.specs.Universe.{Universe}
+use Rattle.resolver_clause_store.specs.Universe.{Universe, hint_none}
 use Rattle.resolver_clause_store.specs.declared.Literal.{Literal}
 use Rattle.resolver_clause_store.specs.declared.Origin.{Origin}
 use Rattle.resolver_encoding.specs.Encodings.{Notes}
@@ -34,6 +34,10 @@ pub record IsListedFrom {N S : Type 0} (notes : Notes N S) (from : ℕ) (s : S) 
 -- the provider hints that the dependencies of the solvable are available
 abbrev pub IsHinted : {N S : Type 0} → Universe N S → S → Type 0
 IsHinted u s = Covers (u.package_named (u.name s)).hint s
+
+-- the provider hints at the dependencies of no solvable of the package
+abbrev pub HintsAtNone : {N S : Type 0} → Universe N S → N → Type 0
+HintsAtNone u n = (u.package_named n).hint ≡ hint_none
 
 -- each hinted solvable of the list was read
 abbrev pub AreReadIfHinted : {N S : Type 0} → Universe N S → Notes N S → List S → Type 0

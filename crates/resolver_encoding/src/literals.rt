@@ -209,6 +209,39 @@ pub(crate) fn push_helpers<N: Copy + Eq + Hash + Drop, S: Copy + Eq + Hash + Dro
     Ok(())
 }
 
+/// Returns the number after that of the last literal's variable, which is often that of the next candidate.
+fn number_after(literals: &[Literal]) -> usize {
+    match literals.last() {
+        Some(literal) => literal.variable.index() + 1,
+        None => 0,
+    }
+}
+
+/// Appends the literal of a candidate.
+fn push_candidate<N: Copy + Eq + Hash + Drop, S: Copy + Eq + Hash + Drop>(
+    variables: &mut Variables<N, S>,
+    literals: &mut Vec<Literal>,
+    candidate: S,
+) -> Result<(), Exhausted>
+    requires names { IsIdentity N.eq }
+    requires solvables { IsIdentity S.eq }
+    requires bounded { IsBounded variables.old }
+    ensures bounded { IsBounded variables.new }
+    ensures limit { limit_in variables.new ≡ limit_in variables.old }
+    ensures grows { Grows (origins_in variables.old) (origins_in variables.new) }
+    ensures added { OnOk result (Adds (origins_in variables.new) literals.old.items literals.new.items (atom (Solvable candidate) true ∷ [])) }
+    ensures adds { AddsSuch (λ o. o ≡ Solvable candidate) (origins_in variables.old) (origins_in variables.new) }
+    ensures refusal { IfErr result (IsShortage (AreFull variables.new)) }
+{
+    let guess = number_after(literals);
+    let variable = variables.intern_near(Origin::Solvable(candidate), guess)?;
+    literals.push(Literal {
+        variable,
+        positive: true,
+    })?;
+    Ok(())
+}
+
 /// Appends the literal of each candidate.
 pub(crate) fn push_candidates<N: Copy + Eq + Hash + Drop, S: Copy + Eq + Hash + Drop>(
     variables: &mut Variables<N, S>,
@@ -226,7 +259,7 @@ pub(crate) fn push_candidates<N: Copy + Eq + Hash + Drop, S: Copy + Eq + Hash + 
     ensures refusal { IfErr result (IsShortage (AreFull variables.new)) }
 {
     for candidate in candidates {
-        push_literal(variables, literals, Origin::Solvable(*candidate), true)?;
+        push_candidate(variables, literals, *candidate)?;
     }
     Ok(())
 }

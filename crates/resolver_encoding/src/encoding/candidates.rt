@@ -13,7 +13,7 @@ ghost use Rattle.resolver_encoding.specs.Refusals.{IsShortage};
 use super::Encoding;
 use crate::codes::{digit_count, has_digit, new_digit};
 use resolver_clause_store::{
-    ClauseKind, DependencyProvider, Exhausted, Interner, Origin, append, is_among,
+    ClauseKind, DependencyProvider, Exhausted, Interner, Origin, append, place_near,
 };
 use std::hash::Hash;
 
@@ -118,13 +118,44 @@ impl<N: Copy + Eq + Hash + Drop, S: Copy + Eq + Hash + Drop> Encoding<N, S> {
         Ok(())
     }
 
-    /// Registers a candidate, if it is new: it gets a variable, a number under its name, and the clauses of its code.
+    /// Registers a new candidate: it gets a variable, a number under its name, and the clauses of its code.
+    fn register_new<D: DependencyProvider<NameId = N, SolvableId = S>>(
+        &mut self,
+        provider: &D,
+        solvable: S,
+    ) -> Result<(), Exhausted>
+        requires bounded { IsBounded self.old }
+        requires absent { Contains (notes_in self.old).seen solvable → ⊥ }
+        ensures room { KeepsRoom self.old self.new }
+        ensures step { OnOk result (IsAskStep (D.universe provider.now) (IsSeeing solvable) (λ root. ⊤) (notes_in self.old) (notes_in self.new)) }
+        ensures seen { OnOk result (Contains (notes_in self.new).seen solvable) }
+        ensures asked { OnOk result ((notes_in self.new).asked ≡ (notes_in self.old).asked) }
+        ensures only { OnOk result ((t : S) → Contains (notes_in self.new).seen t → Contains (notes_in self.old).seen t ⊎ (t ≡ solvable)) }
+        ensures requirements { OnOk result ((notes_in self.new).requirements ≡ (notes_in self.old).requirements) }
+        ensures brings { (root : Demands) → IsEncoding (D.universe provider.now) root (notes_in self.old) → Brings (D.universe provider.now)
+            (IsSeeing solvable) NoneOwn (notes_in self.old) (notes_in self.new) }
+        ensures refusal { IfErr result (IsShortage (IsFull (notes_in self.new))) }
+    {
+        let name = provider.solvable_name(solvable);
+        self.table.variables.intern(Origin::Solvable(solvable))?;
+        let number = self.groups.named(name).len();
+        self.begin_digit(provider, name, number, solvable)?;
+        self.add_code(provider, name, number, solvable)?;
+        self.groups.add(name, solvable)?;
+        append(&mut self.seen, solvable)?;
+        Ok(())
+    }
+
+    /// Registers a candidate, if it is new. Returns the place after its own among the registered ones.
+    ///
+    /// If it is registered at the place that is guessed, that takes little time.
     #[inline(always)]
     pub(super) fn see<D: DependencyProvider<NameId = N, SolvableId = S>>(
         &mut self,
         provider: &D,
         solvable: S,
-    ) -> Result<(), Exhausted>
+        guess: usize,
+    ) -> Result<usize, Exhausted>
         requires bounded { IsBounded self.old }
         ensures room { KeepsRoom self.old self.new }
         ensures step { OnOk result (IsAskStep (D.universe provider.now) (IsSeeing solvable) (λ root. ⊤) (notes_in self.old) (notes_in self.new)) }
@@ -136,17 +167,13 @@ impl<N: Copy + Eq + Hash + Drop, S: Copy + Eq + Hash + Drop> Encoding<N, S> {
             (IsSeeing solvable) NoneOwn (notes_in self.old) (notes_in self.new) }
         ensures refusal { IfErr result (IsShortage (IsFull (notes_in self.new))) }
     {
-        if is_among(&self.seen, &solvable) {
-            return Ok(());
+        match place_near(&self.seen, &solvable, guess) {
+            Some(place) => Ok(place.wrapping_add(1)),
+            None => {
+                self.register_new(provider, solvable)?;
+                Ok(self.seen.len())
+            }
         }
-        let name = provider.solvable_name(solvable);
-        self.table.variables.intern(Origin::Solvable(solvable))?;
-        let number = self.groups.named(name).len();
-        self.begin_digit(provider, name, number, solvable)?;
-        self.add_code(provider, name, number, solvable)?;
-        self.groups.add(name, solvable)?;
-        append(&mut self.seen, solvable)?;
-        Ok(())
     }
 
     /// Registers each of the candidates.
@@ -163,8 +190,9 @@ impl<N: Copy + Eq + Hash + Drop, S: Copy + Eq + Hash + Drop> Encoding<N, S> {
             (IsSeeingEach candidates.now) NoneOwn (notes_in self.old) (notes_in self.new) }
         ensures refusal { IfErr result (IsShortage (IsFull (notes_in self.new))) }
     {
+        let mut next = 0;
         for candidate in candidates {
-            self.see(provider, *candidate)?;
+            next = self.see(provider, *candidate, next)?;
         }
         Ok(())
     }

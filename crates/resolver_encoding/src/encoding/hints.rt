@@ -1,11 +1,13 @@
 //! Candidates that are read early, because their dependencies are available.
 
-ghost use Rattle.std.specs.Prelude.{◌≡◌, ◌<◌, ◌≤◌, ◌++◌, Contains, IfErr, IfOk, OnOk, length};
+ghost use Rattle.std.specs.Prelude.{◌≡◌, ◌<◌, ◌≤◌, ◌++◌, Contains, IfErr, IfOk, IfSome, OnOk, Some, length, true};
 ghost use Rattle.std.specs.Option.{option_to_list};
-ghost use Rattle.resolver_clause_store.specs.Caches.{IsAvailable, IsTrueCache};
+ghost use Rattle.resolver_clause_store.specs.Caches.{HasCandidates, IsAvailable, IsTrueCache};
+ghost use Rattle.resolver_clause_store.specs.Laws.{IsIdentity};
+ghost use Rattle.resolver_clause_store.specs.Universe.{Universe};
 ghost use Rattle.resolver_clause_store.specs.Formula.{clause_at};
 ghost use Rattle.resolver_encoding.specs.Encodings.{IsFull};
-ghost use Rattle.resolver_encoding.specs.Hints.{AreHintsRead, AreHintsReadTo, AreReadIfHinted, IsHinted, candidates_at, literals_at, stated_by};
+ghost use Rattle.resolver_encoding.specs.Hints.{AreHintsRead, AreHintsReadTo, AreReadIfHinted, HintsAtNone, IsHinted, candidates_at, literals_at, stated_by};
 ghost use Rattle.resolver_clause_store.specs.Valid.{demands_of};
 ghost use Rattle.resolver_clause_store.specs.declared.By.TheVariants.{Solvable as BySolvable};
 ghost use Rattle.resolver_encoding.specs.Called.{IsDemanded};
@@ -33,6 +35,44 @@ fn push_found<T: Drop>(list: &mut Vec<T>, found: Option<T>) -> Result<(), Exhaus
             Ok(())
         }
         None => Ok(()),
+    }
+}
+
+/// Returns the name of a package, if that hints at the dependencies of none of its solvables.
+fn without_hints<N: Copy + Eq + Hash + Drop, S: Copy + Eq + Hash + Drop>(
+    cache: &Cache<N, S>,
+    name: N,
+) -> Option<N>
+    requires names { IsIdentity N.eq }
+    requires has { HasCandidates cache.now name }
+    ensures { (u : Universe N S) → IsTrueCache u cache.now → IfSome result (HintsAtNone u) }
+{
+    if cache.is_without_hints(name) {
+        return Some(name);
+    }
+    None
+}
+
+/// Returns whether a candidate's dependencies are not available, because they were not fetched and its package, whose name is `hintless`,
+/// has no hints.
+fn is_out_of_reach<N: Copy + Eq + Hash + Drop, S: Copy + Eq + Hash + Drop>(
+    cache: &Cache<N, S>,
+    hintless: Option<N>,
+    name: N,
+    candidate: S,
+) -> bool
+    requires names { IsIdentity N.eq }
+    requires solvables { IsIdentity S.eq }
+    ensures { result ≡ true → hintless ≡ Some name }
+{
+    match hintless {
+        Some(known) => {
+            if known != name {
+                return false;
+            }
+            !cache.has_dependencies(candidate)
+        }
+        None => false,
     }
 }
 
@@ -122,22 +162,26 @@ impl<N: Copy + Eq + Hash + Drop, S: Copy + Eq + Hash + Drop> Encoding<N, S> {
 
     /// Reads a candidate of a clause if its dependencies are available, unless it was read before.
     ///
-    /// The candidate's package was asked for the sake of the clause, so its hints are known.
+    /// The candidate's package was asked for the sake of the clause, so its hints are known. `hintless` is the name of a package without
+    /// hints, if one is known. Returns such a name.
     fn read_candidate<D: DependencyProvider<NameId = N, SolvableId = S>>(
         &mut self,
         provider: &D,
         cache: &mut Cache<N, S>,
         chosen: &IndexSet<S>,
+        hintless: Option<N>,
         candidate: S,
-    ) -> Result<(), Interrupted<D::Cancel>>
+    ) -> Result<Option<N>, Interrupted<D::Cancel>>
         requires bounded { IsBounded self.old }
         requires is_true { IsTrueCache (D.universe provider.now) cache.old }
         requires half { IsHalfReading (D.universe provider.now) (notes_in self.old) }
         requires seen { Contains (notes_in self.old).seen candidate }
+        requires hintless { IfSome hintless (HintsAtNone (D.universe provider.now)) }
         ensures room { KeepsRoom self.old self.new }
         ensures is_true { IsTrueCache (D.universe provider.now) cache.new }
         ensures reading { OnOk result (IsReadingOf (D.universe provider.now) chosen.now.keys (λ s. candidate ≡ s) (notes_in self.old) (notes_in self.new)) }
         ensures here { OnOk result (IsHinted (D.universe provider.now) candidate → Contains (notes_in self.new).read candidate) }
+        ensures hintless { IfOk result (λ next. IfSome next (HintsAtNone (D.universe provider.now))) }
         ensures more { OnOk result (IsMoreOrSame (notes_in self.old) (notes_in self.new)) }
         ensures brings { Brings (D.universe provider.now)
             (IsDemanded (D.universe provider.now) chosen.now.keys (demands_of ((D.universe provider.now).needs candidate)))
@@ -145,9 +189,14 @@ impl<N: Copy + Eq + Hash + Drop, S: Copy + Eq + Hash + Drop> Encoding<N, S> {
             (notes_in self.new) }
         ensures refusal { IfErr result (IsStop (D.may_cancel provider.now) (IsFull (notes_in self.new))) }
     {
-        cache.fetch_candidates(provider, provider.solvable_name(candidate))?;
+        let name = provider.solvable_name(candidate);
+        if is_out_of_reach(cache, hintless, name, candidate) {
+            return Ok(hintless);
+        }
+        cache.fetch_candidates(provider, name)?;
+        let next = without_hints(cache, name);
         self.read_if_at_hand(provider, cache, chosen, candidate)?;
-        Ok(())
+        Ok(next)
     }
 
     /// Reads those candidates of the requirement clause at a place whose dependencies are available.
@@ -172,8 +221,9 @@ impl<N: Copy + Eq + Hash + Drop, S: Copy + Eq + Hash + Drop> Encoding<N, S> {
         ensures led { KeepsLed (D.universe provider.now) chosen.now.keys (notes_in self.old) (notes_in self.new) }
         ensures refusal { IfErr result (IsStop (D.may_cancel provider.now) (IsFull (notes_in self.new))) }
     {
+        let mut hintless = None;
         for candidate in candidates {
-            self.read_candidate(provider, cache, chosen, *candidate)?;
+            hintless = self.read_candidate(provider, cache, chosen, hintless, *candidate)?;
         }
         Ok(())
     }
