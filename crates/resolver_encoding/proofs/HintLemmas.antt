@@ -1,7 +1,7 @@
 -- Candidates that are read early.
 use Rattle.std.proofs.Common.{◌≡◌, ℕ, ◌+◌, ◌<◌, ◌≤◌, Bool, true, false, length, length-append, List, [], ◌∷◌, ◌++◌, refl, sym, ap, ◌∙◌, subst, ⊎_elim, inl, inr}
 use Rattle.std.proofs.Common.{arith, Contains, get_or}
-use Rattle.std.specs.Prelude.{◌||◌, None, Option, Some, cond, map, slice_get}
+use Rattle.std.specs.Prelude.{◌||◌, IfSome, None, Option, Some, cond, map, slice_get}
 use Rattle.std.specs.Option.{option_map, option_map_or, option_to_list}
 use Rattle.std.proofs.lemmas.Bool.{cases_lt}
 use Rattle.std.proofs.lemmas.Option.{get_or_from_slice_get, slice_get-get_or, slice_get-map, slice_get_within}
@@ -9,7 +9,8 @@ use Rattle.std.proofs.lemmas.List.Elements.{All-head, All-tail, All-weaker, Cont
 use Rattle.resolver_clause_store.specs.Formula.{IsBelow, clause_at}
 use Rattle.resolver_clause_store.specs.Lists.{IsWithin}
 use Rattle.resolver_clause_store.specs.Near.{IsNear}
-use Rattle.resolver_clause_store.specs.Universe.{Universe, Demands}
+use Rattle.resolver_clause_store.specs.Caches.{Covers}
+use Rattle.resolver_clause_store.specs.Universe.{Universe, Demands, Hint, hint_none}
 use Rattle.resolver_clause_store.specs.Variables.{Keeps}
 use Rattle.resolver_clause_store.specs.declared.By.TheVariants.{Solvable as BySolvable}
 use Rattle.resolver_clause_store.specs.declared.Literal.{Literal}
@@ -19,7 +20,7 @@ use Rattle.resolver_clause_store.specs.declared.Origin.TheVariants.{Root, Solvab
 use Rattle.resolver_clause_store.proofs.PlaceLemmas.{Keeps-trans}
 use Rattle.resolver_encoding.specs.Called.{AreAsked, IsCalledFor, to_ask}
 use Rattle.resolver_encoding.specs.Encodings.{Extends, IsEncoding, IsLeft, Notes}
-use Rattle.resolver_encoding.specs.Hints.{AreHintsReadTo, AreReadIfHinted, IsHinted, IsListedFrom, candidates_at, literals_at, stated_by, stated_by_each}
+use Rattle.resolver_encoding.specs.Hints.{AreHintsReadTo, AreReadIfHinted, HintsAtNone, IsHinted, IsListedFrom, candidates_at, literals_at, stated_by, stated_by_each}
 use Rattle.resolver_encoding.specs.ReadState.{Deferred}
 use Rattle.resolver_encoding.specs.SoFar.{HasRead, IsHalfRead, IsHintedReading, IsProgress, IsReadMore, IsReadSoFar, IsReadingOf, left_count, progress_by}
 use Rattle.resolver_encoding.specs.Trails.{solvable_found}
@@ -271,3 +272,11 @@ progress_then {N} {S} old mid new false false true before then = let Longer : No
 progress_then {N} {S} old mid new false true false before then = let Made : Notes N S → Type 0 = λ n. (n.read ≡ old.read) × (left_count n < left_count old) in
     subst Made (sym then) before
 progress_then old mid new false false false before then = then ∙ before
+
+-- no candidate of a package without hints is hinted
+pub unhinted : {N S : Type 0} (u : Universe N S) (hintless : Option N) (n : N) (s : S) → hintless ≡ Some n → IfSome hintless (HintsAtNone u) →
+    n ≡ u.name s → IsHinted u s → ⊥
+unhinted {N = N} {S = S} u hintless n s is known named covered =
+    let Known : Option N → Type 0 = λ h. IfSome h (HintsAtNone u) in
+    let Covered : Hint S → Type 0 = λ h. Covers h s in
+    subst Covered (ap (λ m. (u.package_named m).hint) (sym named) ∙ subst Known is known) covered

@@ -209,11 +209,17 @@ pub(crate) fn push_helpers<N: Copy + Eq + Hash + Drop, S: Copy + Eq + Hash + Dro
     Ok(())
 }
 
-/// Returns the number after that of the last literal's variable, which is often that of the next candidate.
+/// Returns the number after that of the last literal's variable, if it is that of a candidate: often it is that of the next candidate.
+/// Otherwise it returns a number that no variable has.
 fn number_after(literals: &[Literal]) -> usize {
     match literals.last() {
-        Some(literal) => literal.variable.index() + 1,
-        None => 0,
+        Some(literal) => {
+            if literal.positive {
+                return literal.variable.index().wrapping_add(1);
+            }
+            usize::MAX
+        }
+        None => usize::MAX,
     }
 }
 

@@ -190,7 +190,7 @@ impl<N: Copy + Eq + Hash + Drop, S: Copy + Eq + Hash + Drop> Encoding<N, S> {
             (IsSeeingEach candidates.now) NoneOwn (notes_in self.old) (notes_in self.new) }
         ensures refusal { IfErr result (IsShortage (IsFull (notes_in self.new))) }
     {
-        let mut next = 0;
+        let mut next = usize::MAX;
         for candidate in candidates {
             next = self.see(provider, *candidate, next)?;
         }

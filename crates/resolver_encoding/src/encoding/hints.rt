@@ -20,6 +20,7 @@ use crate::chosen::as_solvable;
 use indexmap::IndexSet;
 use resolver_clause_store::{
     Cache, DependencyProvider, Exhausted, Interner, Interrupted, Literal, clause,
+    is_among,
 };
 use std::hash::Hash;
 use std::mem::replace;
@@ -193,8 +194,14 @@ impl<N: Copy + Eq + Hash + Drop, S: Copy + Eq + Hash + Drop> Encoding<N, S> {
         if is_out_of_reach(cache, hintless, name, candidate) {
             return Ok(hintless);
         }
+        if is_among(&self.read, &candidate) {
+            return Ok(hintless);
+        }
         cache.fetch_candidates(provider, name)?;
         let next = without_hints(cache, name);
+        if is_out_of_reach(cache, next, name, candidate) {
+            return Ok(next);
+        }
         self.read_if_at_hand(provider, cache, chosen, candidate)?;
         Ok(next)
     }

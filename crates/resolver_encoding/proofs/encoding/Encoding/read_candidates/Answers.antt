@@ -22,6 +22,7 @@ loop-candidate-init g c =
       reading = hinted_none u c.args.chosen.now.keys c.args.place (notes_in c.args.self.now);
       read = All-nil (λ s. IsHinted u s → Contains (notes_in c.args.self.now).read s);
       more = inl refl;
+      hintless = tt;
       is_true = c.requires.is_true;
     }
 
@@ -46,7 +47,7 @@ loop-candidate-preserved g c =
     let two = notes_in c.loop-candidate.self in
     let three = notes_in c.read_candidate.new.self in
     let first = before.reading.reading in
-    let reading = c.in_ok-read_candidate.ensures.reading in
+    let reading = c.in_ok-hintless.ensures.reading in
     let s = c.candidate-item.result in
     let Among : List g.row.S.Denot → Type 0 = λ list. Contains list s in
     let inside : Contains c.args.candidates.now s = (c.loop-candidate.candidate-index, omega arith, sym c.candidate-item.is) in
@@ -77,8 +78,9 @@ loop-candidate-preserved g c =
       reading = hinted_trans u set half.root c.args.place one two three half.half before.reading now;
       read = All-grown (λ t. IsHinted u t → Contains two.read t) (λ t.
           IsHinted u t → Contains three.read t) c.args.candidates.now c.loop-candidate.candidate-index s (λ t h hinted.
-          Extends-within two.read three.read reading.read t (h hinted)) (omega arith) c.candidate-item.is before.read c.in_ok-read_candidate.ensures.here;
-      more = IsMoreOrSame-trans _ _ _ before.more c.in_ok-read_candidate.ensures.more;
+          Extends-within two.read three.read reading.read t (h hinted)) (omega arith) c.candidate-item.is before.read c.in_ok-hintless.ensures.here;
+      more = IsMoreOrSame-trans _ _ _ before.more c.in_ok-hintless.ensures.more;
+      hintless = c.in_ok-hintless.ensures.hintless;
       is_true = c.read_candidate.ensures.is_true;
     }
 
@@ -95,8 +97,8 @@ returns-clause-here g c =
     (All-done (λ t. IsHinted u t → Contains new.read t) c.args.candidates.now c.loop-candidate.candidate-index
     (omega arith) c.loop-candidate.invariant.read)
 
-pub returns-in_err-read_candidate-clause-led : goal.returns-in_err-read_candidate-clause-led
-returns-in_err-read_candidate-clause-led g c =
+pub returns-in_err-hintless-clause-led : goal.returns-in_err-hintless-clause-led
+returns-in_err-hintless-clause-led g c =
     let u = g.D.Interner.universe c.args.provider.now in
     let set = c.args.chosen.now.keys in
     let here = c.loop-candidate.invariant in

@@ -1,6 +1,7 @@
 use Rattle.std.proofs.Common.{take}
+use Rattle.std.specs.Prelude.{IfSome}
 use Rattle.resolver_clause_store.specs.Caches.{IsTrueCache}
-use Rattle.resolver_encoding.specs.Hints.{AreReadIfHinted}
+use Rattle.resolver_encoding.specs.Hints.{AreReadIfHinted, HintsAtNone}
 use Rattle.resolver_encoding.specs.Notes.{KeepsRoom, notes_in}
 use Rattle.resolver_encoding.specs.SoFar.{IsHalfReading, IsHintedReading, IsMoreOrSame}
 use Rattle.resolver_encoding.specs.Led.{KeepsLed}
@@ -13,6 +14,7 @@ invariant-loop-candidate g l = record {
   reading : IsHintedReading (g.D.Interner.universe l.provider) l.chosen.keys l.place (notes_in l.fn.self) (notes_in l.self);
   read : AreReadIfHinted (g.D.Interner.universe l.provider) (notes_in l.self) (take l.candidate-index l.candidates);
   more : IsMoreOrSame (notes_in l.fn.self) (notes_in l.self);
+  hintless : IfSome l.hintless (HintsAtNone (g.D.Interner.universe l.provider));
   is_true : IsTrueCache (g.D.Interner.universe l.provider) l.cache;
   led : KeepsLed (g.D.Interner.universe l.provider) l.chosen.keys (notes_in l.fn.self) (notes_in l.self);
 }

@@ -33,18 +33,18 @@ loop-candidate-preserved g c =
       step = IsAskStep-trans u (IsSeeingEach c.args.candidates.now) (λ root. ⊤) _ _ _ before.step
           (IsAskStep-weaker u (IsSeeing c.candidate-item.result) (IsSeeingEach c.args.candidates.now)
           (seen_here c.args.candidates.now c.loop-candidate.candidate-index c.candidate-item.result (omega arith) c.candidate-item.is) (λ root. ⊤) (λ root.
-          ⊤) (λ root _. tt) _ _ c.in_ok-see.ensures.step);
+          ⊤) (λ root _. tt) _ _ c.in_ok-next.ensures.step);
       seen = All-grown (Contains c.loop-candidate.self.seen.keys)
           (Contains c.see.new.self.seen.keys) c.args.candidates.now c.loop-candidate.candidate-index c.candidate-item.result (λ y h.
-          Extends-within _ _ c.in_ok-see.ensures.step.seen y h) (omega arith) c.candidate-item.is before.seen c.in_ok-see.ensures.seen;
+          Extends-within _ _ c.in_ok-next.ensures.step.seen y h) (omega arith) c.candidate-item.is before.seen c.in_ok-next.ensures.seen;
     }
 
 pub returns-clause-seen : goal.returns-clause-seen
 returns-clause-seen g c = All-done (Contains c.loop-candidate.self.seen.keys) c.args.candidates.now c.loop-candidate.candidate-index
     (omega arith) c.loop-candidate.invariant.seen
 
-pub returns-in_err-see-clause-brings : goal.returns-in_err-see-clause-brings
-returns-in_err-see-clause-brings g c =
+pub returns-in_err-next-clause-brings : goal.returns-in_err-next-clause-brings
+returns-in_err-next-clause-brings g c =
     λ root before. Brings-trans (g.D.Interner.universe c.args.provider.now) (IsSeeingEach c.args.candidates.now) NoneOwn _ _ _ (λ s h.
     c.loop-candidate.invariant.step.called (to_see s) h) (c.loop-candidate.invariant.brings root before)
     (Brings-weaker (g.D.Interner.universe c.args.provider.now) (IsSeeing c.candidate-item.result) (IsSeeingEach c.args.candidates.now)

@@ -1,0 +1,120 @@
+use Rattle.std.proofs.Common.{◌≡◌, ◌∷◌, ◌++◌, [], ◌∙◌, inl, inr, ⊎_elim, refl, sym, subst, Contains, List, length}
+use Rattle.std.proofs.lemmas.Option.{slice_get_within}
+use Rattle.std.specs.Prelude.{⊤}
+use Rattle.std.proofs.lemmas.List.Elements.{Contains-push, Contains-push_cases}
+use Rattle.resolver_clause_store.specs.declared.Origin.TheVariants.{Solvable}
+use Rattle.resolver_clause_store.specs.Variables.{limit_in, origins_in}
+use Rattle.resolver_encoding.specs.Called.{IsSeeing}
+use Rattle.resolver_encoding.specs.Encodings.{Grows, coding_for, idle}
+use Rattle.resolver_encoding.specs.Groups.{AreGroups}
+use Rattle.resolver_encoding.specs.Led.{NoneOwn, brought_candidate}
+use Rattle.resolver_encoding.specs.declared.groups.Groups.{Groups}
+use Rattle.resolver_encoding.specs.Notes.{notes_in}
+use Rattle.resolver_encoding.proofs.EncodingLemmas.{IsAskStep-of, IsAskStep-same, IsAskStep-trans, IsStep-trans}
+use Rattle.resolver_encoding.proofs.NoteLemmas.{IsStep-origins}
+use Rattle.resolver_encoding.proofs.SeeLemmas.{IsStep-seen}
+use Rattle.resolver_encoding.proofs.SoFarLemmas.{IsWithin-equal}
+use Rattle.resolver_clause_store.proofs.ListLemmas.{Contains-at as place_in}
+use Rattle.resolver_encoding.proofs.LedLemmas.{AddsOnly-same_as, AddsOnly-such, AddsOnly-then-such, AddsOnly-trans, AddsOnly-weaker, AddsSuch-push}
+use Rattle.resolver_encoding.proofs.LedLemmas.{AddsSuch-weaker, Brings-of, Brings-same, own_code, see_brings}
+use Rattle.resolver_encoding.proofs.encoding.Encoding.register_new.Goals as goal
+
+pub returns-clause-step : goal.returns-clause-step
+returns-clause-step g c =
+    let u = g.D.Interner.universe c.args.provider.now in
+    let s = c.args.solvable in
+    let n = c.solvable_name-name.result in
+    let list = c.named-number.result.now in
+    let k = length list in
+    let old = notes_in c.args.self.now in
+    let mid = notes_in c.add_code.new.self in
+    let begun = c.in_ok-begin_digit.ensures in
+    let code = c.in_ok-add_code.ensures in
+    let grows : Grows old.origins (origins_in c.intern.new.self) = record { keeps = c.intern.ensures.kept; distinct = c.intern.ensures.distinct } in
+    let Sound : Groups g.row.N.Denot g.row.S.Denot → Type 0 = λ gs. AreGroups gs in
+    let same_groups = code.groups ∙ begun.groups in
+    let step = IsStep-trans u (coding_for n k s) (λ root. ⊤) _ _ _ begun.step code.step in
+    IsAskStep-trans u (IsSeeing s) (λ root. ⊤) _ _ _
+    (IsAskStep-of u (IsSeeing s) (λ root. ⊤) _ _
+    (IsStep-origins u idle (λ root. ⊤) old _ (origins_in c.intern.new.self) (limit_in c.intern.new.self) grows c.intern.ensures.limit refl))
+    (IsStep-seen u g.N.PartialEq.eq g.S.PartialEq.eq g.met.D.Interner.names_are_values g.met.D.Interner.solvables_are_values n k s _ mid _ c.add.new.self list
+    (sym c.solvable_name-name.ensures) c.requires.absent
+    step same_groups (code.seen ∙ begun.seen) (λ i. record mid { seen = c.in_ok-append.ensures.keys i; groups = c.add.new.self }) c.in_ok-add.ensures.added
+    (place_in mid.origins _ (Solvable s) (step.origins.kept _ (Solvable s) c.in_ok-intern.ensures.here))
+    c.named-number.ensures.each_at c.named-number.ensures.every_at refl code.code
+    (λ i begins sound j t at. code.step.kinds _ (begun.begun i begins sound j t at)))
+
+pub returns-clause-asked : goal.returns-clause-asked
+returns-clause-asked g c = c.in_ok-add_code.ensures.step.asked ∙ c.in_ok-begin_digit.ensures.step.asked
+
+pub begin_digit-requires-clause-below : goal.begin_digit-requires-clause-below
+begin_digit-requires-clause-below g c = λ sound k t at. slice_get_within c.named-number.result.now k t (c.named-number.ensures.every_at sound k t at)
+
+pub returns-clause-seen : goal.returns-clause-seen
+returns-clause-seen g c =
+    let Has : List g.row.S.Denot → Type 0 = λ list. Contains list c.args.solvable in
+    subst Has (sym c.in_ok-append.ensures.keys) (Contains-push c.add_code.new.self.seen.keys c.args.solvable)
+
+pub returns-clause-only : goal.returns-clause-only
+returns-clause-only g c = λ t h.
+    let mid = notes_in c.add_code.new.self in
+    ⊎_elim
+    (λ (before : Contains mid.seen t). inl
+    (IsWithin-equal mid.seen (notes_in c.args.self.now).seen (sym (c.in_ok-add_code.ensures.seen ∙ c.in_ok-begin_digit.ensures.seen)) t before))
+    (λ (last : c.args.solvable ≡ t). inr (sym last))
+    (Contains-push_cases mid.seen c.args.solvable t
+    (IsWithin-equal c.append.new.set.keys (mid.seen ++ c.args.solvable ∷ []) (sym c.in_ok-append.ensures.keys) t h))
+
+pub returns-in_err-intern-clause-brings : goal.returns-in_err-intern-clause-brings
+returns-in_err-intern-clause-brings g c =
+    λ root before. Brings-of (g.D.Interner.universe c.args.provider.now) (IsSeeing c.args.solvable) NoneOwn (λ o. o ≡ Solvable c.args.solvable)
+    (notes_in c.args.self.now) _ (λ o is. inr (brought_candidate c.args.solvable refl is))
+    (AddsOnly-such _ _ _ (AddsSuch-push _ _ _ c.intern.ensures.added) refl)
+
+pub returns-in_err-begin_digit-clause-brings : goal.returns-in_err-begin_digit-clause-brings
+returns-in_err-begin_digit-clause-brings g c =
+    λ root before. (see_brings (g.D.Interner.universe c.args.provider.now) root
+    (notes_in c.args.self.now) before c.solvable_name-name.result c.named-number.result.now c.named-number.ensures.each_at
+    (length c.named-number.result.now) c.args.solvable _ c.named-number.ensures.each refl
+    (AddsOnly-then-such _ _ _ _ (AddsSuch-weaker _ _ (λ o is. own_code _ _ _ _ o (inl is)) _ _
+    (AddsSuch-push _ _ _ c.intern.ensures.added)) c.begin_digit.ensures.adds.origins c.begin_digit.ensures.adds.deferred))
+
+pub returns-in_err-add_code-clause-brings : goal.returns-in_err-add_code-clause-brings
+returns-in_err-add_code-clause-brings g c =
+    λ root before. (see_brings (g.D.Interner.universe c.args.provider.now) root
+    (notes_in c.args.self.now) before c.solvable_name-name.result c.named-number.result.now c.named-number.ensures.each_at
+    (length c.named-number.result.now) c.args.solvable _ c.named-number.ensures.each refl
+    (AddsOnly-trans _ _ _ _ (AddsOnly-then-such _ _ _ _
+    (AddsSuch-weaker _ _ (λ o is. own_code _ _ _ _ o (inl is)) _ _
+    (AddsSuch-push _ _ _ c.intern.ensures.added)) c.begin_digit.ensures.adds.origins c.begin_digit.ensures.adds.deferred)
+    (AddsOnly-weaker _ _ (own_code _ _ _ _) _ _ c.add_code.ensures.adds)))
+
+pub returns-in_err-add-clause-brings : goal.returns-in_err-add-clause-brings
+returns-in_err-add-clause-brings g c =
+    λ root before. (see_brings (g.D.Interner.universe c.args.provider.now) root
+    (notes_in c.args.self.now) before c.solvable_name-name.result c.named-number.result.now c.named-number.ensures.each_at
+    (length c.named-number.result.now) c.args.solvable _ c.named-number.ensures.each refl
+    (AddsOnly-same_as _ _ _ _ (AddsOnly-trans _ _ _ _
+    (AddsOnly-then-such _ _ _ _ (AddsSuch-weaker _ _ (λ o is. own_code _ _ _ _ o (inl is)) _ _
+    (AddsSuch-push _ _ _ c.intern.ensures.added)) c.begin_digit.ensures.adds.origins c.begin_digit.ensures.adds.deferred)
+    (AddsOnly-weaker _ _ (own_code _ _ _ _) _ _ c.add_code.ensures.adds)) refl refl))
+
+pub returns-in_err-append-clause-brings : goal.returns-in_err-append-clause-brings
+returns-in_err-append-clause-brings g c =
+    λ root before. (see_brings (g.D.Interner.universe c.args.provider.now) root
+    (notes_in c.args.self.now) before c.solvable_name-name.result c.named-number.result.now c.named-number.ensures.each_at
+    (length c.named-number.result.now) c.args.solvable _ c.named-number.ensures.each refl
+    (AddsOnly-same_as _ _ _ _ (AddsOnly-trans _ _ _ _
+    (AddsOnly-then-such _ _ _ _ (AddsSuch-weaker _ _ (λ o is. own_code _ _ _ _ o (inl is)) _ _
+    (AddsSuch-push _ _ _ c.intern.ensures.added)) c.begin_digit.ensures.adds.origins c.begin_digit.ensures.adds.deferred)
+    (AddsOnly-weaker _ _ (own_code _ _ _ _) _ _ c.add_code.ensures.adds)) refl refl))
+
+pub returns-clause-brings : goal.returns-clause-brings
+returns-clause-brings g c = λ root before.
+    (see_brings (g.D.Interner.universe c.args.provider.now) root
+    (notes_in c.args.self.now) before c.solvable_name-name.result c.named-number.result.now c.named-number.ensures.each_at
+    (length c.named-number.result.now) c.args.solvable _ c.named-number.ensures.each refl
+    (AddsOnly-same_as _ _ _ _ (AddsOnly-trans _ _ _ _
+    (AddsOnly-then-such _ _ _ _ (AddsSuch-weaker _ _ (λ o is. own_code _ _ _ _ o (inl is)) _ _
+    (AddsSuch-push _ _ _ c.intern.ensures.added)) c.begin_digit.ensures.adds.origins c.begin_digit.ensures.adds.deferred)
+    (AddsOnly-weaker _ _ (own_code _ _ _ _) _ _ c.add_code.ensures.adds)) refl refl))
