@@ -17,6 +17,7 @@ pub mod VersionSetLemmas
 pub mod UnionLemmas
 pub mod AvailabilityLemmas
 pub mod SlotLemmas
+pub mod StoredSlotLemmas
 pub mod MemberLemmas
 pub mod TrailLemmas
 pub mod ClauseLists

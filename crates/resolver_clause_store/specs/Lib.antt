@@ -17,6 +17,7 @@ pub mod Disjuncts
 pub mod Clauses
 pub mod Formula
 pub mod Slots
+pub mod StoredSlots
 pub mod TrailView
 pub mod Variables
 pub mod Outcomes

@@ -15,11 +15,6 @@ is_decided (Decided number) = true
 is_decided (Forced number) = false
 is_decided Assumed = true
 
--- the table has the value of each slot, and none for a variable without a slot
-pub record AreValues (values : List (Option Bool)) (slots : List (Option Slot)) : Type 0 where
-  pub size : length slots ≤ length values
-  pub each : (variable : ℕ) → slice_index_or values variable None ≡ option_map (λ (slot : Slot). slot.value) (slot_in slots variable)
-
 -- the variable at each place has a slot, which names that place
 abbrev pub IsPlaced : List (Option Slot) → List ℕ → Type 0
 IsPlaced slots order =

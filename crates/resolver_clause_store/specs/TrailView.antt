@@ -10,11 +10,11 @@ use Rattle.resolver_clause_store.specs.Slots.{slot_in}
 
 -- the slot of a variable, if it has a value
 abbrev pub slot_of : Trail → ℕ → Option Slot
-slot_of trail variable = slot_in trail.slots.items variable
+slot_of trail variable = slot_in trail.slots variable
 
 -- the number of variables
 abbrev pub variable_count : Trail → ℕ
-variable_count trail = length trail.slots.items
+variable_count trail = length trail.slots
 
 -- the number of variables that have a value
 abbrev pub length_of : Trail → ℕ
@@ -22,7 +22,7 @@ length_of trail = length trail.order.items
 
 -- the number of variables without a value
 abbrev pub open_count : Trail → ℕ
-open_count trail = count_by is_none trail.slots.items
+open_count trail = count_by is_none trail.slots
 
 -- the variable at a place
 abbrev pub variable_at : Trail → ℕ → ℕ
@@ -50,7 +50,7 @@ IsAbove trail level = (variable : ℕ) (slot : Slot) → slot_of trail variable 
 
 -- nothing in the trail has changed
 pub record IsSame (old new : Trail) : Type 0 where
-  pub slots : new.slots.items ≡ old.slots.items
+  pub slots : new.slots ≡ old.slots
   pub order : new.order.items ≡ old.order.items
 
 -- the literal is true now, and nothing else has changed

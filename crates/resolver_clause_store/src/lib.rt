@@ -25,6 +25,7 @@ mod requirements;
 mod rules;
 mod scores;
 mod sets;
+mod slots;
 mod standing;
 mod trail;
 mod union_ends;

@@ -1,10 +1,11 @@
 //! The trail: the variables that have a value, in the order in which they got it.
 
 ghost use Rattle.std.specs.Prelude.{◌<◌, ◌≡◌, ◌≤◌, ℕ, IfOk, MatchBool, None, OnErr, OnOk, Some};
-ghost use Rattle.resolver_clause_store.specs.Slots.{AreCounted, AreRising, AreValues, IsListed, IsPlaced};
+ghost use Rattle.resolver_clause_store.specs.Slots.{AreCounted, AreRising, IsListed, IsPlaced};
 
 use crate::literals::{Literal, Variable};
 use crate::numbers::narrow;
+use crate::slots::Slots;
 use std::alloc::{AllocError, Global};
 
 /// Why a variable has its value.
@@ -29,20 +30,16 @@ pub struct Slot {
 
 /// The variables in the order in which they got their values, with a slot for each variable.
 ///
-/// The values are also in a table of their own: most look-ups want only the value, and slots are wide.
-///
 /// Decision levels count from 0, and never fall from place to place. A decision begins a level, and so does an
 /// assumption.
 #[derive(Drop)]
 pub struct Trail {
-    slots: Vec<Option<Slot>>,
-    values: Vec<Option<bool>>,
+    slots: Slots,
     order: Vec<Variable>,
-    ghost valued: { AreValues values.items slots.items },
-    ghost placed: { IsPlaced slots.items order.items },
-    ghost listed: { IsListed slots.items order.items },
-    ghost rising: { AreRising slots.items },
-    ghost counted: { AreCounted slots.items },
+    ghost placed: { IsPlaced slots order.items },
+    ghost listed: { IsListed slots order.items },
+    ghost rising: { AreRising slots },
+    ghost counted: { AreCounted slots },
 }
 
 impl Trail {
@@ -59,8 +56,7 @@ impl Trail {
         ensures none { (variable : ℕ) → slot_of result variable ≡ None }
     {
         Trail {
-            slots: Vec::new(alloc),
-            values: Vec::new(alloc),
+            slots: Slots::new(alloc),
             order: Vec::new(alloc),
         }
     }
@@ -101,7 +97,7 @@ impl Trail {
         requires { variable < variable_count self.now }
         ensures { result ≡ slot_of self.now variable }
     {
-        self.slots[variable.index()]
+        self.slots.at(variable.index())
     }
 
     /// Returns whether a literal is true, if its variable has a value.
@@ -109,7 +105,7 @@ impl Trail {
         requires { literal.variable < variable_count self.now }
         ensures { result ≡ literal_value self.now literal }
     {
-        match self.values[literal.variable.index()] {
+        match self.slots.value_at(literal.variable.index()) {
             Some(value) => Some(value == literal.positive),
             None => None,
         }
@@ -159,13 +155,15 @@ impl Trail {
         let place = narrow(self.order.len())?;
         let level = narrow(level)?;
         self.order.push(literal.variable)?;
-        self.slots[literal.variable.index()] = Some(Slot {
-            value: literal.positive,
-            level,
-            place,
-            reason,
-        });
-        self.values[literal.variable.index()] = Some(literal.positive);
+        self.slots.put(
+            literal.variable.index(),
+            Slot {
+                value: literal.positive,
+                level,
+                place,
+                reason,
+            },
+        );
         Ok(())
     }
 
@@ -211,8 +209,7 @@ impl Trail {
         ensures ok { OnOk result (IsGrown self.old self.new variables) }
         ensures err { OnErr result (IsSame self.old self.new) }
     {
-        self.values.resize(variables, None)?;
-        self.slots.resize(variables, None)?;
+        self.slots.grow(variables)?;
         Ok(())
     }
 
@@ -222,8 +219,7 @@ impl Trail {
         ensures { IsCut self.old self.new (length_of self.old - 1) }
     {
         if let Some(variable) = self.order.pop() {
-            self.slots[variable.index()] = None;
-            self.values[variable.index()] = None;
+            self.slots.clear(variable.index());
         }
     }
 

@@ -81,11 +81,7 @@ impl<N: Copy + Eq + Hash + Drop, S: Copy + Eq + Hash + Drop> Variables<N, S> {
     }
 
     /// Returns the variable of an origin like `intern`, and is quick if its number is the one that is guessed.
-    pub fn intern_near(
-        &mut self,
-        origin: Origin<N, S>,
-        guess: usize,
-    ) -> Result<Variable, Exhausted>
+    pub fn intern_near(&mut self, origin: Origin<N, S>, guess: usize) -> Result<Variable, Exhausted>
         requires names { IsIdentity N.eq }
         requires solvables { IsIdentity S.eq }
         requires bounded { IsBounded self.old }

@@ -253,4 +253,4 @@ asserted-unit old new backtrack_level level literal literals asserting high undo
 -- the variable of a false literal is one of the trail's
 pub false-below : (trail : Trail) (clause : List Literal) → IsFalsified trail clause → IsBelow (variable_count trail) clause
 false-below trail clause falsified = λ k d below. let v = value-false _ _ (falsified k d below) in
-    slot-within trail.slots.items _ v.0.place (ap (λ o. option_map (λ (slot : Slot). slot.place) o) v.1)
+    slot-within trail.slots _ v.0.place (ap (λ o. option_map (λ (slot : Slot). slot.place) o) v.1)

@@ -19,8 +19,7 @@ use super::Encoding;
 use crate::chosen::as_solvable;
 use indexmap::IndexSet;
 use resolver_clause_store::{
-    Cache, DependencyProvider, Exhausted, Interner, Interrupted, Literal, clause,
-    is_among,
+    Cache, DependencyProvider, Exhausted, Interner, Interrupted, Literal, clause, is_among,
 };
 use std::hash::Hash;
 use std::mem::replace;

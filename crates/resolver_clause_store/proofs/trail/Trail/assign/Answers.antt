@@ -4,7 +4,6 @@ use Rattle.resolver_clause_store.proofs.trail.Trail.assign.Goals as goal
 
 pub invariant_of-self : goal.invariant_of-self
 invariant_of-self c = record {
-  valued = c.args.self.now.valued;
   placed = rw c.in_err-push.ensures.items c.args.self.now.placed;
   listed = rw c.in_err-push.ensures.items c.args.self.now.listed;
   rising = c.args.self.now.rising;
@@ -13,18 +12,18 @@ invariant_of-self c = record {
 
 pub invariant_of-self-2-clause-placed : goal.invariant_of-self-2-clause-placed
 invariant_of-self-2-clause-placed c =
-    rw (c.index.ensures, c.in_ok-push.ensures.items) (placed-push _ _ _ _ c.args.self.now.placed c.requires.free c.requires.inside (search rules))
+    rw (c.put.ensures, c.index.ensures, c.in_ok-push.ensures.items) (placed-push _ _ _ _ c.args.self.now.placed c.requires.free c.requires.inside (search rules))
 
 pub invariant_of-self-2-clause-listed : goal.invariant_of-self-2-clause-listed
 invariant_of-self-2-clause-listed c =
-    rw (c.index.ensures, c.in_ok-push.ensures.items) (listed-push _ _ _ _ c.args.self.now.listed c.requires.free c.requires.inside (search rules))
+    rw (c.put.ensures, c.index.ensures, c.in_ok-push.ensures.items) (listed-push _ _ _ _ c.args.self.now.listed c.requires.free c.requires.inside (search rules))
 
 pub invariant_of-self-2-clause-rising : goal.invariant_of-self-2-clause-rising
 invariant_of-self-2-clause-rising c =
-    rw c.index.ensures (rising-push _ _ _ _ c.args.self.now.rising c.args.self.now.listed c.requires.inside (search rules) (λ v s at.
+    rw (c.put.ensures, c.index.ensures) (rising-push _ _ _ _ c.args.self.now.rising c.args.self.now.listed c.requires.inside (search rules) (λ v s at.
     omega (arith, c.requires.top v s at, c.in_ok-level.ensures)) (λ d v s at. omega (arith, (c.requires.begins d).0 v s at, c.in_ok-level.ensures)))
 
 pub invariant_of-self-2-clause-counted : goal.invariant_of-self-2-clause-counted
 invariant_of-self-2-clause-counted c =
-    rw c.index.ensures (counted-push _ c.args.self.now.order.items _ _ c.args.self.now.counted c.requires.inside (search rules)
+    rw (c.put.ensures, c.index.ensures) (counted-push _ c.args.self.now.order.items _ _ c.args.self.now.counted c.requires.inside (search rules)
     (omega (arith, c.requires.bound, c.in_ok-level.ensures)) (λ d. omega (arith, (c.requires.begins d).1, c.in_ok-level.ensures)))

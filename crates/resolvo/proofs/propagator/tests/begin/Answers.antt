@@ -13,7 +13,7 @@ clauses-init c =
     omega (
       arith,
       c.requires.empty,
-      slot-within c.args.trail.now.slots.items v s.place (ap (λ (o : Option Slot). option_map (λ (slot : Slot). slot.place) o) (sym (grown.slots v) ∙ at)),
+      slot-within c.args.trail.now.slots v s.place (ap (λ (o : Option Slot). option_map (λ (slot : Slot). slot.place) o) (sym (grown.slots v) ∙ at)),
     )
     in
     record {
