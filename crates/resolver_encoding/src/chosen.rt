@@ -11,7 +11,7 @@ ghost use Rattle.resolver_encoding.specs.Encodings.{Extends};
 ghost use Rattle.resolver_encoding.specs.Trails.{origin_at, solvable_found, solvable_if, value_of};
 
 use indexmap::IndexSet;
-use resolver_clause_store::{Exhausted, Origin, Trail, Variables};
+use resolver_clause_store::{Exhausted, Literal, Origin, Trail, Variables, narrow};
 use std::alloc::Global;
 use std::hash::Hash;
 
@@ -20,8 +20,12 @@ fn is_true_at(trail: &Trail, place: usize) -> bool
     requires { place < length_of trail.now }
     ensures { result ≡ value_of trail.now (variable_at trail.now place) }
 {
-    match trail.slot(trail.variable_at(place)) {
-        Some(slot) => slot.value,
+    let literal = Literal {
+        variable: trail.variable_at(place),
+        positive: true,
+    };
+    match trail.value(literal) {
+        Some(value) => value,
         None => false,
     }
 }
@@ -97,7 +101,7 @@ fn put_found<T: Copy + Eq + Hash + Drop>(
 pub struct Chosen<S: Copy + Eq + Hash + Drop> {
     solvables: IndexSet<S>,
     /// The number of solvables before each entry that was followed.
-    counts: Vec<usize>,
+    counts: Vec<u32>,
 }
 
 impl<S: Copy + Eq + Hash + Drop> Chosen<S> {
@@ -153,7 +157,7 @@ impl<S: Copy + Eq + Hash + Drop> Chosen<S> {
             return;
         }
         let count = self.counts[kept];
-        self.solvables.truncate(count);
+        self.solvables.truncate(count as usize);
         self.counts.truncate(kept);
     }
 
@@ -173,7 +177,8 @@ impl<S: Copy + Eq + Hash + Drop> Chosen<S> {
         ensures more { OnOk result (Extends (chosen_in self.old) (chosen_in self.new)) }
         ensures memory { IfErr result (λ e. e ≡ Exhausted.Memory) }
     {
-        self.counts.push(self.solvables.len())?;
+        let count = narrow(self.solvables.len())?;
+        self.counts.push(count)?;
         put_found(&mut self.solvables, solvable_at(variables, trail, place))?;
         Ok(())
     }
