@@ -44,4 +44,4 @@ StandingIs trail clause (Inactive variable) = Contains clause (record { variable
     (literal_value trail (record { variable = variable; positive = false }) ≢ Some false)
 StandingIs trail clause (Met variable) = Contains clause (record { variable = variable; positive = true }) ×
     (literal_value trail (record { variable = variable; positive = true }) ≡ Some true)
-StandingIs trail clause (Open place) = IsFirst trail clause place
+StandingIs trail clause (Open place count) = IsFirst trail clause place

@@ -1,10 +1,8 @@
 //! Candidates that may be decided.
 
-ghost use Rattle.std.specs.Prelude.{◌≡◌};
 ghost use Rattle.resolver_clause_store.specs.Formula.{IsBelow};
 ghost use Rattle.resolver_clause_store.specs.TrailView.{variable_count};
 
-use crate::clauses::StoredRequirement;
 use crate::literals::Literal;
 use crate::trail::Trail;
 
@@ -15,10 +13,6 @@ pub struct Choice {
     pub number: usize,
     /// The place of the candidate in the clause.
     pub place: usize,
-    /// Whether the requirement is one of the root.
-    pub of_root: bool,
-    /// The number of candidates of the same version set that have no value.
-    pub count: usize,
 }
 
 /// Returns the place after the candidates of the version set to which the candidate at `place` belongs, or the clause's
@@ -45,25 +39,21 @@ fn open_between(trail: &Trail, clause: &[Literal], from: usize, to: usize) -> us
     count
 }
 
-/// Returns the choice of the candidate at a place of a requirement clause.
+/// Returns the number of candidates without a value that are in the same version set as the candidate at a place of a requirement clause.
 ///
-/// `ends` has the place after the candidates of each version set of a union.
-pub fn choice_at(
+/// `ends` has the place after the candidates of each version set of a union, and `all` is the number of candidates without a value in the
+/// whole clause.
+pub fn open_count(
     trail: &Trail,
     clause: &[Literal],
-    requirement: StoredRequirement,
     ends: &[usize],
     place: usize,
-) -> Choice
+    all: usize,
+) -> usize
     requires { IsBelow (variable_count trail.now) clause.now }
-    ensures number { result.number ≡ requirement.number }
-    ensures place { result.place ≡ place }
 {
-    let end = end_of(ends, place, clause.len());
-    Choice {
-        number: requirement.number as usize,
-        place,
-        of_root: requirement.of_root,
-        count: open_between(trail, clause, place, end),
+    if ends.is_empty() {
+        return all;
     }
+    open_between(trail, clause, place, end_of(ends, place, clause.len()))
 }

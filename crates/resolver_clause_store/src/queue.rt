@@ -14,7 +14,7 @@ ghost use Rattle.resolver_clause_store.specs.Decisions.{IsChoice};
 ghost use Rattle.resolver_clause_store.specs.Settled.{AllSettled};
 
 use crate::clauses::{Clauses, StoredRequirement, clause};
-use crate::decisions::{Choice, choice_at};
+use crate::decisions::Choice;
 use crate::literals::{Literal, Variable};
 use crate::numbers::narrow;
 use crate::owner::Owner;
@@ -226,10 +226,10 @@ impl DecideQueue {
                 self.ranks.leave(self.active.as_slice(), place);
                 Ok(None)
             }
-            Standing::Open(first) => {
-                let ends = self.ranks.ends_of(number);
-                Ok(Some(choice_at(trail, literals, *requirement, ends, first)))
-            }
+            Standing::Open { first, count: _ } => Ok(Some(Choice {
+                number: requirement.number as usize,
+                place: first,
+            })),
         }
     }
 

@@ -7,7 +7,7 @@ ghost use Rattle.resolver_clause_store.specs.declared.clauses.StoredRequirement.
 ghost use Rattle.resolver_clause_store.specs.Settled.{AllSettled};
 
 use crate::clauses::{Clauses, StoredRequirement, clause};
-use crate::decisions::choice_at;
+use crate::decisions::open_count;
 use crate::lists::Lists;
 use crate::literals::{Literal, Variable};
 use crate::numbers::narrow;
@@ -412,14 +412,14 @@ impl Ranks {
             Some(place) => {
                 let literals = clause(table, requirements[index].number as usize);
                 match standing_of(trail, literals) {
-                    Standing::Open(first) => {
+                    Standing::Open { first, count } => {
                         let edition = self.entries[index].edition.wrapping_add(1);
                         self.entries[index].edition = edition;
                         let ends = self.ends_of(requirement);
-                        let choice = choice_at(trail, literals, requirements[index], ends, first);
-                        let count = narrow(choice.count)?;
+                        let open = open_count(trail, literals, ends, first, count);
+                        let count = narrow(open)?;
                         self.put(Rank {
-                            is_later: !choice.of_root,
+                            is_later: !requirements[index].of_root,
                             count,
                             requirement,
                             owner: self.owner_of(literals[first].variable),

@@ -15,9 +15,13 @@ pub enum Standing {
     Inactive(Variable),
     /// The requirement is met: this candidate is true.
     Met(Variable),
-    /// The requirement is active and no candidate is true. The candidate at this place of the clause is the first
-    /// without a value.
-    Open(usize),
+    /// The requirement is active and no candidate is true.
+    Open {
+        /// The place of the first candidate without a value.
+        first: usize,
+        /// The number of candidates without a value.
+        count: usize,
+    },
 }
 
 /// Returns the state of a clause's requirement.
@@ -27,6 +31,7 @@ pub fn standing_of(trail: &Trail, clause: &[Literal]) -> Standing
     ensures { StandingIs trail.now clause.now result }
 {
     let mut first: Option<usize> = None;
+    let mut count: usize = 0;
     'literals: for place in 0..clause.len() {
         let Literal { variable, positive } = clause[place];
         match trail.value(clause[place]) {
@@ -44,11 +49,12 @@ pub fn standing_of(trail: &Trail, clause: &[Literal]) -> Standing
                 if first.is_none() {
                     first = Some(place);
                 }
+                count = count.wrapping_add(1);
             }
         }
     }
     match first {
-        Some(place) => Standing::Open(place),
-        None => Standing::Open(0),
+        Some(first) => Standing::Open { first, count },
+        None => Standing::Open { first: 0, count },
     }
 }

@@ -54,9 +54,8 @@ returns-in-Open-clause-some c =
     let requirement : StoredRequirement = get_or c.args.requirements.now c.index-number.result.now none in
     let is : requirement ≡ get_or c.args.requirements.now c.index-number.result.now requirement =
     get_or_default c.args.requirements.now c.index-number.result.now none requirement inside in
-    let literals = c.clause-literals.ensures ∙ ap (λ n. clause_at c.args.table.now n) (sym c.choice_at.ensures.number) in
     record {
       requirement = requirement;
       listed = (c.index-number.result.now, inside, sym is);
-      chosen = record { number_is = sym c.choice_at.ensures.number; first = rw (sym literals, c.choice_at.ensures.place) c.in-Open.ensures };
+      chosen = record { number_is = refl; first = rw (sym c.clause-literals.ensures) c.in-Open.ensures };
     }
