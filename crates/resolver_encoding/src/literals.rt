@@ -12,7 +12,9 @@ ghost use Rattle.resolver_encoding.specs.Led.{AddsSuch};
 ghost use Rattle.resolver_encoding.specs.Refusals.{IsShortage};
 ghost use Rattle.resolver_encoding.specs.Tables.{IsBeside, IsSecond};
 
-use resolver_clause_store::{By, ClauseKind, Exhausted, Literal, Origin, Variables, VersionSetId};
+use resolver_clause_store::{
+    By, ClauseKind, Clauses, Exhausted, Literal, Origin, Variables, VersionSetId, clause,
+};
 use std::hash::Hash;
 
 /// Returns the origin of the root or of a solvable.
@@ -132,12 +134,31 @@ pub(crate) fn count_of<N, S>(
         .saturating_add(candidates.len())
 }
 
-/// Appends the literal of an origin.
+/// Returns the number of the variable of the literal at a place, or a number that no variable has.
+fn number_at(literals: &[Literal], place: usize) -> usize {
+    match literals.get(place) {
+        Some(literal) => literal.variable.index(),
+        None => usize::MAX,
+    }
+}
+
+/// Returns the numbers of the variables of the first two literals of the last clause. The next clause often begins with one of them.
+pub(crate) fn last_front(clauses: &Clauses) -> (usize, usize) {
+    let count = clauses.len();
+    if count == 0 {
+        return (usize::MAX, usize::MAX);
+    }
+    let literals = clause(clauses, count - 1);
+    (number_at(literals, 0), number_at(literals, 1))
+}
+
+/// Appends the literal of an origin. It takes less time if the number of its variable is the one that is guessed.
 fn push_literal<N: Copy + Eq + Hash + Drop, S: Copy + Eq + Hash + Drop>(
     variables: &mut Variables<N, S>,
     literals: &mut Vec<Literal>,
     origin: Origin<N, S>,
     positive: bool,
+    guess: usize,
 ) -> Result<(), Exhausted>
     requires names { IsIdentity N.eq }
     requires solvables { IsIdentity S.eq }
@@ -149,17 +170,18 @@ fn push_literal<N: Copy + Eq + Hash + Drop, S: Copy + Eq + Hash + Drop>(
     ensures adds { AddsSuch (λ o. o ≡ origin) (origins_in variables.old) (origins_in variables.new) }
     ensures refusal { IfErr result (IsShortage (AreFull variables.new)) }
 {
-    let variable = variables.intern(origin)?;
+    let variable = variables.intern_near(origin, guess)?;
     literals.push(Literal { variable, positive })?;
     Ok(())
 }
 
-/// Appends the one or two literals at the front of a clause.
+/// Appends the one or two literals at the front of a clause. The guesses are of the numbers of their variables.
 pub(crate) fn push_front<N: Copy + Eq + Hash + Drop, S: Copy + Eq + Hash + Drop>(
     variables: &mut Variables<N, S>,
     literals: &mut Vec<Literal>,
     first: (Origin<N, S>, bool),
     second: Option<(Origin<N, S>, bool)>,
+    guesses: (usize, usize),
 ) -> Result<(), Exhausted>
     requires names { IsIdentity N.eq }
     requires solvables { IsIdentity S.eq }
@@ -171,11 +193,11 @@ pub(crate) fn push_front<N: Copy + Eq + Hash + Drop, S: Copy + Eq + Hash + Drop>
     ensures adds { AddsSuch (IsMentioned (front first second)) (origins_in variables.old) (origins_in variables.new) }
     ensures refusal { IfErr result (IsShortage (AreFull variables.new)) }
 {
-    push_literal(variables, literals, first.0, first.1)?;
+    push_literal(variables, literals, first.0, first.1, guesses.0)?;
     match second {
         None => Ok(()),
         Some(second) => {
-            push_literal(variables, literals, second.0, second.1)?;
+            push_literal(variables, literals, second.0, second.1, guesses.1)?;
             Ok(())
         }
     }
@@ -204,6 +226,7 @@ pub(crate) fn push_helpers<N: Copy + Eq + Hash + Drop, S: Copy + Eq + Hash + Dro
             literals,
             Origin::ConditionHelper(*version_set),
             false,
+            usize::MAX,
         )?;
     }
     Ok(())
@@ -223,31 +246,6 @@ fn number_after(literals: &[Literal]) -> usize {
     }
 }
 
-/// Appends the literal of a candidate.
-fn push_candidate<N: Copy + Eq + Hash + Drop, S: Copy + Eq + Hash + Drop>(
-    variables: &mut Variables<N, S>,
-    literals: &mut Vec<Literal>,
-    candidate: S,
-) -> Result<(), Exhausted>
-    requires names { IsIdentity N.eq }
-    requires solvables { IsIdentity S.eq }
-    requires bounded { IsBounded variables.old }
-    ensures bounded { IsBounded variables.new }
-    ensures limit { limit_in variables.new ≡ limit_in variables.old }
-    ensures grows { Grows (origins_in variables.old) (origins_in variables.new) }
-    ensures added { OnOk result (Adds (origins_in variables.new) literals.old.items literals.new.items (atom (Solvable candidate) true ∷ [])) }
-    ensures adds { AddsSuch (λ o. o ≡ Solvable candidate) (origins_in variables.old) (origins_in variables.new) }
-    ensures refusal { IfErr result (IsShortage (AreFull variables.new)) }
-{
-    let guess = number_after(literals);
-    let variable = variables.intern_near(Origin::Solvable(candidate), guess)?;
-    literals.push(Literal {
-        variable,
-        positive: true,
-    })?;
-    Ok(())
-}
-
 /// Appends the literal of each candidate.
 pub(crate) fn push_candidates<N: Copy + Eq + Hash + Drop, S: Copy + Eq + Hash + Drop>(
     variables: &mut Variables<N, S>,
@@ -265,7 +263,14 @@ pub(crate) fn push_candidates<N: Copy + Eq + Hash + Drop, S: Copy + Eq + Hash + 
     ensures refusal { IfErr result (IsShortage (AreFull variables.new)) }
 {
     for candidate in candidates {
-        push_candidate(variables, literals, *candidate)?;
+        let guess = number_after(literals);
+        push_literal(
+            variables,
+            literals,
+            Origin::Solvable(*candidate),
+            true,
+            guess,
+        )?;
     }
     Ok(())
 }

@@ -14,7 +14,8 @@ ghost use Rattle.resolver_encoding.specs.Values.{IsClauseOf};
 use crate::choices::{Choices, places_behind};
 use crate::kinds::ClauseKinds;
 use crate::literals::{
-    count_of, depends_on, first_of, push_candidates, push_front, push_helpers, second_of,
+    count_of, depends_on, first_of, last_front, push_candidates, push_front, push_helpers,
+    second_of,
 };
 use resolver_clause_store::{
     By, ClauseKind, Clauses, Exhausted, Literal, RequirementClause, UnionEnds, Variables, narrow,
@@ -180,7 +181,14 @@ impl<N: Copy + Eq + Hash + Drop, S: Copy + Eq + Hash + Drop> ClauseTable<N, S> {
         let second = second_of(kind);
         let helpers = depends_on(kind);
         literals.reserve_exact(count_of(&second, helpers, &choices.candidates))?;
-        push_front(&mut self.variables, literals, first_of(kind), second)?;
+        let guesses = last_front(&self.literals);
+        push_front(
+            &mut self.variables,
+            literals,
+            first_of(kind),
+            second,
+            guesses,
+        )?;
         push_helpers(&mut self.variables, literals, helpers)?;
         let ends = places_behind(self.alloc, literals.len(), &choices.counts)?;
         push_candidates(&mut self.variables, literals, &choices.candidates)?;

@@ -20,22 +20,22 @@ pub loop-candidate-preserved : goal.loop-candidate-preserved
 loop-candidate-preserved g c =
     let before = c.loop-candidate.invariant in
     record {
-      bounded = c.push_candidate.ensures.bounded;
-      limit = c.push_candidate.ensures.limit ∙ before.limit;
-      grows = Grows-trans _ _ _ before.grows c.push_candidate.ensures.grows;
+      bounded = c.push_literal.ensures.bounded;
+      limit = c.push_literal.ensures.limit ∙ before.limit;
+      grows = Grows-trans _ _ _ before.grows c.push_literal.ensures.grows;
       added = Adds-next (λ s. atom (Solvable s) true) _ _ _ _ _ c.args.candidates.now c.loop-candidate.candidate-index c.candidate-item.result _
-          c.push_candidate.ensures.grows before.added (omega arith)
-          (ap (λ s. atom (Solvable s) true) (sym c.candidate-item.is)) c.in_ok-push_candidate.ensures.added;
+          c.push_literal.ensures.grows before.added (omega arith)
+          (ap (λ s. atom (Solvable s) true) (sym c.candidate-item.is)) c.in_ok-push_literal.ensures.added;
       adds = AddsSuch-trans _ _ _ _ before.adds
           (AddsSuch-weaker _ _ (λ o same.
-          (_, Contains-item c.args.candidates.now c.loop-candidate.candidate-index _ (omega arith) c.candidate-item.is, same)) _ _ c.push_candidate.ensures.adds);
+          (_, Contains-item c.args.candidates.now c.loop-candidate.candidate-index _ (omega arith) c.candidate-item.is, same)) _ _ c.push_literal.ensures.adds);
     }
 
 pub returns-clause-added : goal.returns-clause-added
 returns-clause-added g c = rw (take_all c.loop-candidate.candidate-index c.args.candidates.now (omega arith)) at c.loop-candidate.invariant.added
 
-pub returns-in_err-push_candidate-clause-adds : goal.returns-in_err-push_candidate-clause-adds
-returns-in_err-push_candidate-clause-adds g c =
+pub returns-in_err-push_literal-clause-adds : goal.returns-in_err-push_literal-clause-adds
+returns-in_err-push_literal-clause-adds g c =
     AddsSuch-trans _ _ _ _ c.loop-candidate.invariant.adds
     (AddsSuch-weaker _ _ (λ o same.
-    (_, Contains-item c.args.candidates.now c.loop-candidate.candidate-index _ (omega arith) c.candidate-item.is, same)) _ _ c.push_candidate.ensures.adds)
+    (_, Contains-item c.args.candidates.now c.loop-candidate.candidate-index _ (omega arith) c.candidate-item.is, same)) _ _ c.push_literal.ensures.adds)
