@@ -1,6 +1,6 @@
 -- Look-ups in a table of true entries, and the entries of a table after an answer is put in.
 use Rattle.std.proofs.Common.{◌≡◌, ◌∙◌, ap, Bool, List, [], All}
-use Rattle.std.specs.Prelude.{Option, Some}
+use Rattle.std.specs.Prelude.{Some}
 use Rattle.std.specs.Map.{lookup}
 use Rattle.std.proofs.lemmas.List.Elements.{All-contains, All-nil, All-same}
 use Rattle.std.proofs.lemmas.Map.Views.{Contains-from_lookup}

@@ -1,11 +1,11 @@
 -- A trail with more variables.
-use Rattle.std.proofs.Common.{◌≡◌, ℕ, ◌-◌, ◌<◌, ◌≤◌, List, ◌++◌, length, length-append, get_or, take, replicate, Bool, true, false, Option, None, arith, sym}
+use Rattle.std.proofs.Common.{◌≡◌, ℕ, ◌-◌, ◌<◌, ◌≤◌, List, ◌++◌, length, length-append, get_or, replicate, Option, None, arith, sym}
 use Rattle.std.proofs.Common.{ap, ◌∙◌, ⊎_elim}
 use Rattle.std.specs.Option.{option_map}
 use Rattle.std.proofs.Math.ListN.{get_or-append}
 use Rattle.std.proofs.Math.Seq.{get_or-append_right}
 use Rattle.std.proofs.lemmas.Bool.{cases_lt}
-use Rattle.std.proofs.lemmas.List.{get_or_past, get_or-replicate, get_or-take, length-replicate, length-take, take_all}
+use Rattle.std.proofs.lemmas.List.{get_or_past, get_or-replicate, length-replicate}
 use Rattle.resolver_clause_store.specs.declared.trail.Slot.{Slot}
 use Rattle.resolver_clause_store.specs.Slots.{AreCounted, AreRising, IsListed, IsPlaced, slot_in}
 

@@ -4,7 +4,7 @@ ghost use Rattle.std.specs.Prelude.{◌≡◌, ◌≢◌, ◌<◌, ℕ, [], ◌�
 ghost use Rattle.resolver_clause_store.specs.Laws.{IsIdentity};
 
 use indexmap::IndexSet;
-use resolver_clause_store::{Exhausted, append, place_of};
+use resolver_clause_store::{Exhausted, append, place_near};
 use std::alloc::Global;
 use std::hash::Hash;
 
@@ -41,6 +41,11 @@ impl<N: Copy + Eq + Hash + Drop, S: Copy + Drop> Groups<N, S> {
         }
     }
 
+    /// Returns the place of the group that was made last. The next solvable often belongs to it.
+    fn last_place(&self) -> usize {
+        self.names.len().wrapping_sub(1)
+    }
+
     /// Returns the solvables of a name.
     pub(crate) fn named(&self, name: N) -> &[S]
         requires { IsIdentity N.eq }
@@ -49,7 +54,7 @@ impl<N: Copy + Eq + Hash + Drop, S: Copy + Drop> Groups<N, S> {
         ensures each_at { (k : ℕ) (s : S) → slice_get result.now k ≡ Some s → IsAt self.now name k s }
         ensures every_at { AreGroups self.now → (k : ℕ) (s : S) → IsAt self.now name k s → slice_get result.now k ≡ Some s }
     {
-        match place_of(&self.names, &name) {
+        match place_near(&self.names, &name, self.last_place()) {
             Some(place) => self.group(place),
             None => &[],
         }
@@ -91,7 +96,7 @@ impl<N: Copy + Eq + Hash + Drop, S: Copy + Drop> Groups<N, S> {
         ensures added { OnOk result (AreGroups self.old → AddsNamed self.old self.new name solvable) }
         ensures memory { IfErr result (λ e. e ≡ Exhausted.Memory) }
     {
-        match place_of(&self.names, &name) {
+        match place_near(&self.names, &name, self.last_place()) {
             Some(place) => {
                 self.put(place, solvable)?;
                 Ok(())

@@ -1,7 +1,6 @@
-use Rattle.std.proofs.Common.{arith, false, refl, sym, ap, get_or, length, ◌∙◌, ◌≡◌, ◌<◌}
+use Rattle.std.proofs.Common.{arith, false, refl, sym, get_or, length, ◌≡◌, ◌<◌}
 use Rattle.std.proofs.lemmas.List.{get_or_default}
 use Rattle.resolver_clause_store.specs.declared.clauses.StoredRequirement.{StoredRequirement}
-use Rattle.resolver_clause_store.specs.Formula.{clause_at}
 use Rattle.resolver_clause_store.proofs.QueueLemmas.{held-by_candidate, held-inactive, left-read, parked-more, queued-settled}
 use Rattle.resolver_clause_store.proofs.queue.DecideQueue.consider.Goals as goal
 

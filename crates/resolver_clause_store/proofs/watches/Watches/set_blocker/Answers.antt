@@ -1,6 +1,4 @@
-use Rattle.std.proofs.Common.{ap, refl, subst, sym}
-use Rattle.std.specs.Prelude.{Contains}
-use Rattle.resolver_clause_store.specs.Formula.{clause_at}
+use Rattle.std.proofs.Common.{refl, subst, sym}
 use Rattle.resolver_clause_store.specs.Watches.{FitsClause, list_at, list_number, with_blocker}
 use Rattle.resolver_clause_store.specs.declared.watches.Watch.{Watch}
 use Rattle.resolver_clause_store.proofs.WatchListLemmas.{fit-at, fit-set, fits-with, same-clauses, watch_at-is, watched-set}
