@@ -1,7 +1,7 @@
 use Rattle.std.proofs.lemmas.Grind.{common_steps}
 use Rattle.std.proofs.Common.{arith, sym}
 use Rattle.resolver_clause_store.proofs.TrailLemmas.{value-none}
-use Rattle.resolvo.proofs.JustifiedLemmas.{justified-gains, justified-same}
+use Rattle.resolvo.proofs.JustifiedLemmas.{extends-gains, justified-gains, justified-same}
 use Rattle.resolvo.proofs.VisitLemmas.{below-contains, forces, own-other}
 use Rattle.resolvo.proofs.WatchedLemmas.{owned-of, refused-any}
 use Rattle.resolvo.proofs.propagator.Propagator.force_other.Goals as goal
@@ -33,7 +33,8 @@ returns-in_ok-outcome-in-None-clause-justified c =
     (omega (arith, c.requires.inside, was.watched.attached)) (own-other _ _ _ _ _ _ was c.requires.pair) c.requires.unit
 
 pub returns-in_ok-outcome-in-None-clause-extends : goal.returns-in_ok-outcome-in-None-clause-extends
-returns-in_ok-outcome-in-None-clause-extends c = grind (arith, common_steps)
+returns-in_ok-outcome-in-None-clause-extends c =
+    extends-gains _ _ _ _ _ c.in_ok-force-in-None.ensures.ok (value-none _ _ (sym c.in-None.ensures))
 
 pub returns-in_ok-outcome-in-None-clause-outcome : goal.returns-in_ok-outcome-in-None-clause-outcome
 returns-in_ok-outcome-in-None-clause-outcome c = grind (arith, common_steps)
