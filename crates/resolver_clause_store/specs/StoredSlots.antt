@@ -12,9 +12,9 @@ use Rattle.resolver_clause_store.specs.declared.trail.Slot.{Slot}
 
 -- the value that is stored, if there is one
 abbrev pub value_of : StoredValue → Option Bool
-value_of Open = None
 value_of False = Some false
 value_of True = Some true
+value_of Open = None
 
 -- the reason with these parts
 abbrev pub reason_from : Cause → ℕ → Reason

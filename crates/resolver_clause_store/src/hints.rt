@@ -20,7 +20,7 @@ pub(crate) fn covers<S: Eq>(hint: &HintDependenciesAvailable<S>, solvable: &S) -
     }
 }
 
-/// Returns whether a hint says so of no solvable.
+/// Returns whether a hint says of no solvable that its dependencies are cheap.
 pub(crate) fn covers_none<S>(hint: &HintDependenciesAvailable<S>) -> bool
     ensures { result ≡ true → hint_of hint.now ≡ hint_none }
 {

@@ -1,4 +1,4 @@
-//! The slots of variables, in little room.
+//! The slots of variables, in seventeen bytes each.
 
 ghost use Rattle.std.specs.Prelude.{◌<◌, ◌≡◌, ◌≤◌, [], ℕ, None, OnErr, OnOk, Some, length, slice_set};
 ghost use Rattle.std.specs.Option.{option_map};
@@ -13,10 +13,10 @@ use std::marker::Model;
 /// The value of a variable, in one byte.
 #[derive(Clone, Copy)]
 pub enum StoredValue {
-    /// The variable has no value.
-    Open,
     False,
     True,
+    /// The variable has no value.
+    Open,
 }
 
 /// Why a variable has its value, without the number of a clause.
@@ -84,9 +84,9 @@ fn value_of(stored: StoredValue) -> Option<bool>
     ensures { result ≡ value_of stored }
 {
     match stored {
-        StoredValue::Open => None,
         StoredValue::False => Some(false),
         StoredValue::True => Some(true),
+        StoredValue::Open => None,
     }
 }
 
