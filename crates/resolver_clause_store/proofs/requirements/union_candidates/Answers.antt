@@ -25,3 +25,12 @@ returns g c =
           c.version_sets_in_union-version_set-items.ensures (c.in_ok-from_slice.ensures.items ∙ c.as_slice.ensures.keys) c.loop-version_set.invariant.taken;
       refusal = tt;
     }
+
+pub returns-in_err-fetch_sorted-clause-keeps : goal.returns-in_err-fetch_sorted-clause-keeps
+returns-in_err-fetch_sorted-clause-keeps g c = KeepsAnswers-trans _ _ _ c.loop-version_set.invariant.keeps c.fetch_sorted.ensures.keeps
+
+pub returns-in_err-add_all-clause-keeps : goal.returns-in_err-add_all-clause-keeps
+returns-in_err-add_all-clause-keeps g c = KeepsAnswers-trans _ _ _ c.loop-version_set.invariant.keeps c.fetch_sorted.ensures.keeps
+
+pub returns-in_err-from_slice-clause-keeps : goal.returns-in_err-from_slice-clause-keeps
+returns-in_err-from_slice-clause-keeps g c = c.loop-version_set.invariant.keeps
