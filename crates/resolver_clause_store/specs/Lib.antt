@@ -25,6 +25,7 @@ pub mod Settled
 pub mod Watches
 pub mod WatchedPairs
 pub mod WatchesView
+pub mod Unsatisfied
 pub mod UnionEnds
 pub mod Decisions
 pub mod NumberedLists

@@ -1,6 +1,6 @@
 //! The slots of variables, in seventeen bytes each.
 
-ghost use Rattle.std.specs.Prelude.{◌<◌, ◌≡◌, ◌≤◌, [], ℕ, None, OnErr, OnOk, Some, length, slice_set};
+ghost use Rattle.std.specs.Prelude.{◌<◌, ◌≡◌, ◌≢◌, ◌≤◌, [], ℕ, MatchBool, None, OnErr, OnOk, Some, length, slice_set};
 ghost use Rattle.std.specs.Option.{option_map};
 ghost use Rattle.resolver_clause_store.specs.Slots.{slot_in};
 ghost use Rattle.resolver_clause_store.specs.StoredSlots.{reason_from, slot_with, value_of};
@@ -11,7 +11,7 @@ use std::alloc::{AllocError, Global};
 use std::marker::Model;
 
 /// The value of a variable, in one byte.
-#[derive(Clone, Copy)]
+#[derive(Clone, Copy, PartialEq, Eq)]
 pub enum StoredValue {
     False,
     True,
@@ -55,6 +55,13 @@ fn stored_value(value: bool) -> StoredValue
         return StoredValue::True;
     }
     StoredValue::False
+}
+
+/// Returns whether this value is stored.
+fn is_stored(stored: StoredValue, value: bool) -> bool
+    ensures { MatchBool result (value_of stored ≡ Some value) (value_of stored ≢ Some value) }
+{
+    stored == stored_value(value)
 }
 
 /// Returns the parts of a reason. For an assumption the number means nothing.
@@ -159,6 +166,14 @@ impl Slots {
         ensures { result ≡ option_map (λ (slot : Slot). slot.value) (slot_in self.now index) }
     {
         value_of(self.values[index])
+    }
+
+    /// Returns whether a variable has this value.
+    pub fn has_value(&self, index: usize, value: bool) -> bool
+        requires { index < length self.now }
+        ensures { let stored = option_map (λ (slot : Slot). slot.value) (slot_in self.now index) in MatchBool result (stored ≡ Some value) (stored ≢ Some value) }
+    {
+        is_stored(self.values[index], value)
     }
 
     /// Gives a variable a slot.

@@ -1,6 +1,6 @@
 //! The trail: the variables that have a value, in the order in which they got it.
 
-ghost use Rattle.std.specs.Prelude.{◌<◌, ◌≡◌, ◌≤◌, ℕ, IfOk, MatchBool, None, OnErr, OnOk, Some};
+ghost use Rattle.std.specs.Prelude.{◌<◌, ◌≡◌, ◌≢◌, ◌≤◌, ℕ, IfOk, MatchBool, None, OnErr, OnOk, Some};
 ghost use Rattle.resolver_clause_store.specs.Slots.{AreCounted, AreRising, IsListed, IsPlaced};
 
 use crate::literals::{Literal, Variable};
@@ -43,7 +43,7 @@ pub struct Trail {
 }
 
 impl Trail {
-    ghost use Rattle.std.specs.Prelude.{◌+◌, ◌-◌, true};
+    ghost use Rattle.std.specs.Prelude.{◌+◌, ◌-◌, false, true};
     ghost use Rattle.std.specs.Option.{option_map};
     ghost use Rattle.resolver_clause_store.specs.Slots.{is_decided};
     ghost use Rattle.resolver_clause_store.specs.declared.trail.Reason.TheVariants.{Assumed, Decided, Forced};
@@ -109,6 +109,24 @@ impl Trail {
             Some(value) => Some(value == literal.positive),
             None => None,
         }
+    }
+
+    /// Returns whether a literal is true.
+    pub fn is_true(&self, literal: Literal) -> bool
+        requires { literal.variable < variable_count self.now }
+        ensures { MatchBool result (literal_value self.now literal ≡ Some true) (literal_value self.now literal ≢ Some true) }
+    {
+        self.slots
+            .has_value(literal.variable.index(), literal.positive)
+    }
+
+    /// Returns whether a literal is false.
+    pub fn is_false(&self, literal: Literal) -> bool
+        requires { literal.variable < variable_count self.now }
+        ensures { MatchBool result (literal_value self.now literal ≡ Some false) (literal_value self.now literal ≢ Some false) }
+    {
+        self.slots
+            .has_value(literal.variable.index(), !literal.positive)
     }
 
     /// Returns the variable at a place.

@@ -1,14 +1,17 @@
 //! The clauses that watch each literal.
 
-ghost use Rattle.std.specs.Prelude.{◌≡◌, ◌≢◌, ℕ, ◌+◌, ◌*◌, ◌<◌, ◌≤◌, ◌++◌, ◌∷◌, [], List, OnErr, OnOk, Some, Vec, length, slice_get, slice_set};
+ghost use Rattle.std.specs.Prelude.{◌≡◌, ◌≢◌, ℕ, ◌+◌, ◌*◌, ◌<◌, ◌≤◌, ◌++◌, ◌∷◌, [], All, List, OnErr, OnOk, Some, Vec, length, slice_get, slice_set};
 ghost use Rattle.std.specs.List.{swap_remove};
 ghost use Rattle.std.specs.declared.alloc.Global.{Global};
 ghost use Rattle.resolver_clause_store.specs.declared.literals.Literal.{Literal};
+ghost use Rattle.resolver_clause_store.specs.TrailView.{variable_count};
+ghost use Rattle.resolver_clause_store.specs.Unsatisfied.{IsFirstUnsatisfied};
 ghost use Rattle.resolver_clause_store.specs.Watches.{IsWatched, PutsList, blocker_of, is_watched, list_at, list_number, replaced, watch_at, with_blocker};
 
 use crate::literals::{Literal, Variable};
 use crate::numbers::narrow;
 use crate::pairs::{WatchedPair, WatchedPairs};
+use crate::trail::Trail;
 use std::alloc::{AllocError, Global};
 
 /// A clause in the list of a literal that it watches.
@@ -135,6 +138,20 @@ fn set_at(lists: &mut Vec<Vec<Watch>>, list: usize, place: usize, blocker: Liter
     lists[list][place] = watch_of(watch.number, blocker, watch.is_binary);
 }
 
+/// Returns the first place from this one on whose blocker is not true, or the number of watches.
+fn first_unsatisfied(watches: &[Watch], trail: &Trail, from: usize) -> usize
+    requires from { from ≤ length watches.now }
+    requires below { All (λ (watch : Watch). watch.blocker_variable < variable_count trail.now) watches.now }
+    ensures { IsFirstUnsatisfied trail.now watches.now from result }
+{
+    'watches: for place in from..watches.len() {
+        if !trail.is_true(watches[place].blocker()) {
+            return place;
+        }
+    }
+    watches.len()
+}
+
 /// The clauses that watch each literal, and the two literals that each clause watches.
 ///
 /// A clause is in the lists of its two literals and in no other list. A clause without two different literals watches
@@ -210,6 +227,16 @@ impl Watches {
         ensures watching { IsWatching (pairs_of self.now) result.number literal }
     {
         self.lists[list_number(literal)][place]
+    }
+
+    /// Returns the first place of a literal's list, from this one on, whose blocker is not true, or the number of watches in the list.
+    pub fn first_unsatisfied(&self, trail: &Trail, literal: Literal, from: usize) -> usize
+        requires list { HasList self.now literal }
+        requires from { from ≤ length (list_at (lists_of self.now) (list_number literal)) }
+        requires below { All (λ (watch : Watch). watch.blocker_variable < variable_count trail.now) (list_at (lists_of self.now) (list_number literal)) }
+        ensures { IsFirstUnsatisfied trail.now (list_at (lists_of self.now) (list_number literal)) from result }
+    {
+        first_unsatisfied(self.lists[list_number(literal)].as_slice(), trail, from)
     }
 
     /// Makes a clause watch one more literal, with `pair` as its new pair.

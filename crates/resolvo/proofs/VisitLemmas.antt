@@ -15,14 +15,16 @@ use Rattle.resolver_clause_store.specs.declared.Reason.TheVariants.{Forced}
 use Rattle.resolver_clause_store.specs.declared.Trail.{Trail}
 use Rattle.resolver_clause_store.specs.Formula.{AreBelow, clause_at}
 use Rattle.resolver_clause_store.specs.Outcomes.{IsSatisfied}
-use Rattle.resolver_clause_store.specs.TrailView.{slot_of, length_of, level_of, literal_value, variable_at, Gains, IsTop}
+use Rattle.resolver_clause_store.specs.TrailView.{slot_of, length_of, level_of, literal_value, variable_at, variable_count, Gains, IsTop}
 use Rattle.resolver_clause_store.proofs.PlaceLemmas.{place_cases}
 use Rattle.resolver_clause_store.proofs.TrailLemmas.{Keeps, gains-cases, keeps-gains, value-true}
+use Rattle.resolver_clause_store.proofs.WatchListLemmas.{fit-at}
 use Rattle.resolvo.specs.Propagators.{AreLate, AreWatched, Covers, IsExcused, IsNoted, IsPropagator, IsTrueAt, IsTrueBefore, WatchesTwo, attached_of, head_of}
 use Rattle.resolvo.specs.Propagators.{late_of, pending_of}
 use Rattle.resolvo.specs.Visits.{GoesOn, IsPaired, IsVisiting, Replaces, StandsAt, watchers_of}
+use Rattle.resolver_clause_store.specs.Unsatisfied.{IsFirstUnsatisfied}
 use Rattle.resolver_clause_store.specs.Watches.{FitClauses, IsPair, IsWatching, MovesWatch, SameClauses, list_at, list_number, pair_at, unwatched}
-use Rattle.resolver_clause_store.specs.Watches.{watched_pair}
+use Rattle.resolver_clause_store.specs.Watches.{blocker_of, watched_pair}
 use Rattle.resolver_clause_store.specs.WatchesView.{lists_of, pairs_of}
 use Rattle.resolvo.specs.declared.propagator.Late.{Late}
 use Rattle.resolvo.specs.declared.propagator.Propagator.{Propagator}
@@ -41,6 +43,13 @@ any-left P xs ys h = any-contains P (xs ++ ys) h.1 (Contains-append_left xs ys h
 pub below-contains : (table : List (List Literal)) (variables number : ℕ) (literal : Literal) → AreBelow variables table →
     Contains (clause_at table number) literal → literal.variable < variables
 below-contains table variables number literal below c = subst (λ (l : Literal). l.variable < variables) c.2 (below number c.0 literal c.1)
+
+-- the blockers have a slot
+pub blockers-below : (table : List (List Literal)) (trail : Trail) (it : Propagator) (falsified : FalseLiteral) (place : ℕ) →
+    IsVisiting table trail it falsified place → All (λ (watch : Watch). watch.blocker_variable < variable_count trail) (watchers_of it falsified.literal)
+blockers-below table trail it falsified place v k d inside =
+    let watch = get_or (watchers_of it falsified.literal) k d in
+    below-contains table (variable_count trail) watch.number (blocker_of watch) v.below (v.propagator.watched.fit (list_number falsified.literal) k d inside).own
 
 -- a clause that is true
 
@@ -176,6 +185,26 @@ passes table trail old new falsified place number v stands inside satisfied watc
 
 abbrev pub with_watches : Propagator → Watches → Propagator
 with_watches it watches = record { watches = watches; late = it.late; pending = it.pending; head = it.head }
+
+-- watchers whose blockers are true
+pub passes-satisfied : (table : List (List Literal)) (trail : Trail) (it : Propagator) (falsified : FalseLiteral) (from place : ℕ) →
+    falsified.is_top ≡ true → IsFirstUnsatisfied trail (watchers_of it falsified.literal) from place → IsVisiting table trail it falsified from →
+    IsVisiting table trail it falsified place
+passes-satisfied table trail it falsified from place top first v = record {
+  below = v.below;
+  propagator = v.propagator;
+  attached = v.attached;
+  fails = v.fails;
+  excused = record {
+    each = λ k watch less at. ⊎_elim
+        (λ (before : k < from). v.excused.each k watch before at)
+        (λ (behind : from ≤ k). inl (satisfied-low trail (clause_at table watch.number) falsified.level (v.fails.top top)
+        (any-contains (λ (l : Literal). literal_value trail l ≡ Some true) (clause_at table watch.number) (blocker_of watch)
+        (fit-at table (lists_of it.watches) (list_number falsified.literal) k watch v.propagator.watched.fit at).own
+        (first.passed k watch behind less at))))
+        (cases_lt k from);
+  };
+}
 
 -- a new blocker
 pub sets : (table : List (List Literal)) (trail : Trail) (old : Propagator) (watches : Watches) (falsified : FalseLiteral) (place : ℕ) →

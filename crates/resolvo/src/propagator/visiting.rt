@@ -1,17 +1,18 @@
 //! Visits to the clauses that watch a literal which has become false.
 
-ghost use Rattle.std.specs.Prelude.{◌≡◌, ◌≢◌, ◌+◌, ◌<◌, ◌≤◌, ◌++◌, ◌∷◌, [], false, true, Contains, IfNone, IfOk, IfSome, MatchOption, None, OnErr, OnOk, Some, if◌then◌else◌, length};
+ghost use Rattle.std.specs.Prelude.{◌≡◌, ◌≢◌, ◌+◌, ◌<◌, ◌≤◌, ◌++◌, ◌∷◌, [], false, true, All, Contains, IfNone, IfOk, IfSome, List, MatchOption, None, OnErr, OnOk, Some, if◌then◌else◌, length};
 ghost use Rattle.resolver_clause_store.specs.Formula.{AreBelow, IsBelow, clause_at};
 ghost use Rattle.resolver_clause_store.specs.Outcomes.{IsSatisfied};
 ghost use Rattle.resolver_clause_store.specs.TrailView.{length_of, literal_value, open_count, variable_count};
 ghost use Rattle.resolver_clause_store.specs.declared.Literal.{Literal};
+ghost use Rattle.resolver_clause_store.specs.declared.Watch.{Watch};
 ghost use Rattle.resolvo.specs.Propagation.{Extends, IsConflict, IsJustified, IsUnit};
 ghost use Rattle.resolver_clause_store.specs.Settled.{AllSettled};
 ghost use Rattle.resolvo.specs.Propagators.{IsAttached, IsPropagator};
 ghost use Rattle.resolvo.specs.Visits.{FailsAt, IsPaired, IsVisiting, WatchOutcomeIs, Replaces, StandsAt};
 ghost use Rattle.resolvo.specs.WatchedClauses.{AreOwned};
 ghost use Rattle.resolver_clause_store.specs.Watches.{IsPair, IsWatching};
-ghost use Rattle.resolver_clause_store.specs.WatchesView.{pairs_of};
+ghost use Rattle.resolver_clause_store.specs.WatchesView.{HasList, pairs_of};
 
 use super::{Late, Propagator};
 use resolver_clause_store::{Clauses, Literal, Trail, WatchedPair, clause, narrow};
@@ -67,7 +68,7 @@ fn first_replacement(trail: &Trail, clause: &[Literal], other: &Literal) -> Opti
     ensures { MatchOption result (IsUnit trail.now other.now clause.now) (Replaces trail.now clause.now other.now) }
 {
     'literals: for place in 0..clause.len() {
-        if clause[place] != *other && trail.value(clause[place]) != Some(false) {
+        if !trail.is_false(clause[place]) && clause[place] != *other {
             return Some(clause[place]);
         }
     }
@@ -296,7 +297,7 @@ impl Propagator {
             place,
             other: other_watched(&pair, &falsified.literal),
         };
-        if trail.value(watcher.other) == Some(true) {
+        if trail.is_true(watcher.other) {
             let outcome = self.pass_by_other(trail, table, falsified, &watcher)?;
             return Ok(outcome);
         }
@@ -331,6 +332,26 @@ impl Propagator {
         trail.force(binary.other, binary.number)?;
         let outcome = self.pass_by(trail, table, falsified, binary.place, binary.number)?;
         Ok(outcome)
+    }
+
+    /// Returns the place of the next watcher to visit, from this one on.
+    ///
+    /// If the literal became false at the highest level, a watcher whose blocker is true needs no visit.
+    fn next_place(&self, trail: &Trail, falsified: &FalseLiteral, from: usize) -> usize
+        requires list { HasList self.now.watches falsified.now.literal }
+        requires from { from ≤ length (watchers_of self.now falsified.now.literal) }
+        requires below { All (λ (watch : Watch). watch.blocker_variable < variable_count trail.now) (watchers_of self.now falsified.now.literal) }
+        ensures above { from ≤ result }
+        ensures within { result ≤ length (watchers_of self.now falsified.now.literal) }
+        ensures visiting { (table : List (List Literal)) → IsVisiting table trail.now self.now falsified.now from →
+            IsVisiting table trail.now self.now falsified.now result }
+    {
+        if falsified.is_top {
+            return self
+                .watches
+                .first_unsatisfied(trail, falsified.literal, from);
+        }
+        from
     }
 
     /// Visits the watcher at a place in the list of a literal that has become false.
@@ -392,10 +413,10 @@ impl Propagator {
         ensures total { open_count trail.new + length_of trail.new ≡ open_count trail.old + length_of trail.old }
     {
         let falsified = self.false_literal(trail);
-        let mut place = 0;
+        let mut place = self.next_place(trail, &falsified, 0);
         'watchers: while place < self.watches.count(falsified.literal) {
             match self.visit_watcher(trail, table, &falsified, place)? {
-                WatchOutcome::Next(next) => place = next,
+                WatchOutcome::Next(next) => place = self.next_place(trail, &falsified, next),
                 WatchOutcome::Conflict(number) => return Ok(Some(number)),
             }
         }

@@ -3,8 +3,8 @@ use Rattle.std.proofs.lemmas.Grind.{common_steps}
 use Rattle.resolvo.proofs.VisitLemmas.{below-contains, own-other, paired}
 use Rattle.resolvo.proofs.propagator.Propagator.visit_pair.Goals as goal
 
-pub value-requires : goal.value-requires
-value-requires c =
+pub is_true-requires : goal.is_true-requires
+is_true-requires c =
     let v = c.requires.visiting in
     let pair = paired _ _ _ _ _ _ v.propagator.watched c.requires.inside c.requires.watching (rw c.pair-pair.ensures at c.other_watched.ensures) in
     below-contains _ _ _ _ v.below (own-other _ _ _ _ _ _ v.propagator pair)
@@ -31,14 +31,14 @@ returns-clause-outcome c = grind (arith, common_steps)
 pub returns-clause-open : goal.returns-clause-open
 returns-clause-open c = grind (arith, common_steps)
 
-pub returns-then-eq-clause-extends : goal.returns-then-eq-clause-extends
-returns-then-eq-clause-extends c = grind (arith, common_steps)
+pub returns-then-is_true-clause-extends : goal.returns-then-is_true-clause-extends
+returns-then-is_true-clause-extends c = grind (arith, common_steps)
 
-pub returns-then-eq-clause-justified : goal.returns-then-eq-clause-justified
-returns-then-eq-clause-justified c = grind (arith, common_steps)
+pub returns-then-is_true-clause-justified : goal.returns-then-is_true-clause-justified
+returns-then-is_true-clause-justified c = grind (arith, common_steps)
 
-pub returns-then-eq-clause-outcome : goal.returns-then-eq-clause-outcome
-returns-then-eq-clause-outcome c = grind (arith, common_steps)
+pub returns-then-is_true-clause-outcome : goal.returns-then-is_true-clause-outcome
+returns-then-is_true-clause-outcome c = grind (arith, common_steps)
 
-pub returns-then-eq-clause-open : goal.returns-then-eq-clause-open
-returns-then-eq-clause-open c = grind (arith, common_steps)
+pub returns-then-is_true-clause-open : goal.returns-then-is_true-clause-open
+returns-then-is_true-clause-open c = grind (arith, common_steps)
