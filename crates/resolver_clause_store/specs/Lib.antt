@@ -29,6 +29,7 @@ pub mod Unsatisfied
 pub mod UnionEnds
 pub mod Decisions
 pub mod NumberedLists
+pub mod Requirers
 pub mod Queues
 pub mod Parked
 pub mod Owners

@@ -8,6 +8,7 @@ use Rattle.resolver_clause_store.specs.Formula.{clause_at}
 use Rattle.resolver_clause_store.specs.TrailView.{length_of, literal_value, slot_of, variable_at}
 use Rattle.resolver_clause_store.specs.declared.parked.ParkedLists.{ParkedLists}
 use Rattle.resolver_clause_store.specs.Parked.{list_of}
+use Rattle.resolver_clause_store.specs.Requirers.{AreRequirers}
 use Rattle.resolver_clause_store.specs.declared.queue.DecideQueue.{DecideQueue}
 
 -- The requirement with this index is put aside for a variable that its clause negates, and that is not true at an
@@ -40,9 +41,10 @@ pub record IsFollowing (queue : DecideQueue) (trail : Trail) : Type 0 where
   pub reached : queue.kept ≤ length_of trail
   pub same : (place : ℕ) → place < queue.kept → slice_index queue.followed.items place ≡ variable_at trail place
 
--- the queue follows the trail, and each requirement is in one of its lists
+-- the queue follows the trail, each requirement is in one of its lists, and the requirers that are known are right
 pub record IsQueued (queue : DecideQueue) (trail : Trail) (table : List (List Literal)) (requirements : List StoredRequirement) : Type 0 where
   pub following : IsFollowing queue trail
+  pub requirers : AreRequirers queue.requirers table requirements
   pub each : (index : ℕ) (d : StoredRequirement) → index < length requirements →
       IsHeld queue.active.items queue.inactive queue.met queue.followed.items queue.kept trail
       (clause_at table (slice_index_or requirements index d).number) index

@@ -22,6 +22,7 @@ mod questions;
 mod queue;
 mod ranks;
 mod requirements;
+mod requirers;
 mod rules;
 mod scores;
 mod sets;

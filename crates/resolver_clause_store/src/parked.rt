@@ -1,6 +1,6 @@
 //! Numbered lists of numbers that are put aside and taken back, in one pool of nodes.
 
-ghost use Rattle.std.specs.Prelude.{◌≡◌, ◌≢◌, ◌<◌, ◌+◌, ◌∷◌, ◌++◌, [], ℕ, IfOk, List, OnErr, OnOk, length};
+ghost use Rattle.std.specs.Prelude.{◌≡◌, ◌≢◌, ◌<◌, ◌+◌, ◌∷◌, ◌++◌, [], ℕ, IfNone, IfOk, List, MatchOption, OnErr, OnOk, length};
 ghost use Rattle.resolver_clause_store.specs.declared.parked.Chain.{Chain};
 ghost use Rattle.resolver_clause_store.specs.Parked.{AreApart, HaveSameItems, IsLoose, chain_at, empty, list_of};
 
@@ -170,6 +170,41 @@ impl ParkedLists {
             count: chain.count - 1,
         };
         Ok(())
+    }
+
+    /// Takes the first item off a list that has one.
+    fn pop_first(&mut self, number: usize) -> Result<u32, AllocError>
+        requires { 0 < length (list_of self.old number) }
+        ensures taken { IfOk result (λ item. list_of self.old number ≡ item ∷ list_of self.new number) }
+        ensures others { OnOk result ((other : ℕ) → other ≢ number → list_of self.new other ≡ list_of self.old other) }
+    {
+        let chain = self.lists[number];
+        let node = self.nodes[chain.first.place as usize];
+        let free = with_first(self.free, chain.first)?;
+        self.nodes[chain.first.place as usize] = Node {
+            item: node.item,
+            next: self.free.first,
+        };
+        self.free = free;
+        self.lists[number] = Chain {
+            first: node.next,
+            count: chain.count - 1,
+        };
+        Ok(node.item)
+    }
+
+    /// Takes the first item off a list, if it has one.
+    pub fn pop(&mut self, number: usize) -> Result<Option<u32>, AllocError>
+        ensures taken { IfOk result (λ answer.
+            MatchOption answer (list_of self.old number ≡ []) (λ item. list_of self.old number ≡ item ∷ list_of self.new number)) }
+        ensures unchanged { IfOk result (λ answer. IfNone answer (self.new ≡ self.old)) }
+        ensures others { OnOk result ((other : ℕ) → other ≢ number → list_of self.new other ≡ list_of self.old other) }
+    {
+        if self.count(number) == 0 {
+            return Ok(None);
+        }
+        let item = self.pop_first(number)?;
+        Ok(Some(item))
     }
 
     /// Moves the items of a list to the end of another list.

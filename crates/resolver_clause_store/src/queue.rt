@@ -1,6 +1,6 @@
 //! The queue of requirements to decide.
 
-ghost use Rattle.std.specs.Prelude.{◌<◌, ◌≡◌, ◌≤◌, ◌+◌, ◌++◌, ◌∷◌, [], All, IfNone, IfOk, IfSome, List, OnOk, Vec, false, length, min};
+ghost use Rattle.std.specs.Prelude.{◌<◌, ◌≡◌, ◌≤◌, ◌+◌, ◌++◌, ◌∷◌, [], All, IfNone, IfOk, IfSome, List, OnOk, Some, Vec, false, length, min, true};
 ghost use Rattle.std.specs.Option.{option_map_or};
 ghost use Rattle.std.specs.declared.alloc.Global.{Global};
 ghost use Rattle.resolver_clause_store.specs.Formula.{AreBelow, clause_at};
@@ -12,6 +12,8 @@ ghost use Rattle.resolver_clause_store.specs.declared.trail.Slot.{Slot};
 ghost use Rattle.resolver_clause_store.specs.declared.trail.Trail.{Trail};
 ghost use Rattle.resolver_clause_store.specs.Decisions.{IsChoice};
 ghost use Rattle.resolver_clause_store.specs.Settled.{AllSettled};
+ghost use Rattle.resolver_clause_store.specs.Parked.{list_of};
+ghost use Rattle.resolver_clause_store.specs.Requirers.{requirer_of};
 
 use crate::clauses::{Clauses, StoredRequirement, clause};
 use crate::decisions::Choice;
@@ -20,6 +22,7 @@ use crate::numbers::narrow;
 use crate::owner::Owner;
 use crate::parked::ParkedLists;
 use crate::ranks::Ranks;
+use crate::requirers::Requirers;
 use crate::scores::Activity;
 use crate::standing::{Standing, standing_of};
 use crate::trail::Trail;
@@ -36,11 +39,25 @@ fn is_true(trail: &Trail, variable: Variable) -> bool
     }
 }
 
+/// Returns whether a variable is true, and became so at one of the first `count` places of the trail.
+fn is_true_before(trail: &Trail, variable: Variable, count: usize) -> bool
+    ensures { result ≡ false → (slot : Slot) → slot_of trail.now variable ≡ Some slot → slot.value ≡ true → count ≤ slot.place }
+{
+    if variable.index() >= trail.variable_count() {
+        return false;
+    }
+    match trail.slot(variable) {
+        Some(slot) => slot.value && (slot.place as usize) < count,
+        None => false,
+    }
+}
+
 /// The requirements that may be left to decide, and the others, which are put aside.
 ///
 /// A requirement is put aside while a variable that it depends on is not true, or while one of its candidates is true.
 /// The queue follows a trail: when a variable becomes true or loses its value, the requirements that are put aside for
-/// it come back. So the requirements that are not put aside are all that may be left to decide.
+/// it come back. So the requirements that are not put aside are all that may be left to decide. A requirement that loses
+/// its candidate, and depends on a variable that is not true any more either, goes from one list to the other.
 #[derive(Drop)]
 pub struct DecideQueue {
     /// The requirements that are not put aside.
@@ -49,6 +66,8 @@ pub struct DecideQueue {
     inactive: ParkedLists,
     /// The requirements that are put aside for a candidate that is true, by that candidate.
     met: ParkedLists,
+    /// The variable that each requirement depends on, once it was put aside for it.
+    requirers: Requirers,
     /// The variables of the trail's entries that were followed.
     followed: Vec<Variable>,
     /// The number of first entries that have not changed since they were followed.
@@ -68,6 +87,7 @@ impl DecideQueue {
             active: Vec::new(alloc),
             inactive: ParkedLists::new(alloc),
             met: ParkedLists::new(alloc),
+            requirers: Requirers::new(alloc),
             followed: Vec::new(alloc),
             kept: 0,
             ranks: Ranks::new(alloc, activity),
@@ -118,32 +138,80 @@ impl DecideQueue {
         self.kept = self.kept.min(count);
     }
 
-    /// Forgets the last followed entry, which has changed, and brings back the requirements that its variable met.
-    fn forget_last(&mut self) -> Result<(), AllocError>
-        requires { self.old.kept < length self.old.followed.items }
-        ensures queued { OnOk result (StaysQueued self.old self.new) }
-        ensures kept { OnOk result (self.new.kept ≡ self.old.kept) }
-        ensures fewer { OnOk result (length self.new.followed.items + 1 ≡ length self.old.followed.items) }
+    /// Returns the variable that a requirement depends on, unless that is true by an unchanged entry, or is not known.
+    fn open_requirer(&self, trail: &Trail, requirement: usize) -> Option<Variable>
+        ensures { IfSome result (λ variable. (requirer_of self.now.requirers requirement ≡ Some variable) ×
+            ((slot : Slot) → slot_of trail.now variable ≡ Some slot → slot.value ≡ true → self.now.kept ≤ slot.place)) }
     {
-        match self.followed.pop() {
-            Some(variable) => {
-                self.met.take(variable.index(), &mut self.active)?;
-                self.ranks.touch(variable)?;
-                Ok(())
+        let variable = self.requirers.of(requirement)?;
+        if is_true_before(trail, variable, self.kept) {
+            return None;
+        }
+        Some(variable)
+    }
+
+    /// Takes back one of the requirements that a candidate met. It becomes inactive if what it depends on is not true any
+    /// more, and active otherwise. Returns whether there was one.
+    fn take_back_one(&mut self, trail: &Trail, candidate: Variable) -> Result<bool, AllocError>
+        ensures queued { OnOk result ((table : List (List Literal)) (requirements : List StoredRequirement) →
+            IsQueued self.old trail.now table requirements → IsQueued self.new trail.now table requirements) }
+        ensures kept { OnOk result (self.new.kept ≡ self.old.kept) }
+        ensures followed { OnOk result (self.new.followed.items ≡ self.old.followed.items) }
+        ensures more { IfOk result (λ is_one. is_one ≡ true → length (list_of self.new.met candidate) < length (list_of self.old.met candidate)) }
+        ensures none { IfOk result (λ is_one. is_one ≡ false → list_of self.new.met candidate ≡ []) }
+    {
+        let Some(number) = self.met.pop(candidate.index())? else {
+            return Ok(false);
+        };
+        match self.open_requirer(trail, number as usize) {
+            Some(requirer) => {
+                self.inactive.add(requirer.index(), number)?;
+                Ok(true)
             }
-            None => Ok(()),
+            None => {
+                self.active.push(number)?;
+                Ok(true)
+            }
         }
     }
 
+    /// Takes back the requirements that a candidate met.
+    fn take_back(&mut self, trail: &Trail, candidate: Variable) -> Result<(), AllocError>
+        ensures queued { OnOk result ((table : List (List Literal)) (requirements : List StoredRequirement) →
+            IsQueued self.old trail.now table requirements → IsQueued self.new trail.now table requirements) }
+        ensures kept { OnOk result (self.new.kept ≡ self.old.kept) }
+        ensures followed { OnOk result (self.new.followed.items ≡ self.old.followed.items) }
+        ensures none { OnOk result (list_of self.new.met candidate ≡ []) }
+    {
+        'requirements: while self.take_back_one(trail, candidate)? {}
+        Ok(())
+    }
+
+    /// Forgets the last followed entry, which has changed, and takes back the requirements that its variable met.
+    fn forget_last(&mut self, trail: &Trail) -> Result<(), AllocError>
+        requires { self.old.kept < length self.old.followed.items }
+        ensures queued { OnOk result ((table : List (List Literal)) (requirements : List StoredRequirement) →
+            IsQueued self.old trail.now table requirements → IsQueued self.new trail.now table requirements) }
+        ensures kept { OnOk result (self.new.kept ≡ self.old.kept) }
+        ensures fewer { OnOk result (length self.new.followed.items + 1 ≡ length self.old.followed.items) }
+    {
+        let variable = self.followed[self.followed.len() - 1];
+        self.take_back(trail, variable)?;
+        self.followed.pop();
+        self.ranks.touch(variable)?;
+        Ok(())
+    }
+
     /// Forgets the followed entries that have changed.
-    fn forget(&mut self) -> Result<(), AllocError>
+    fn forget(&mut self, trail: &Trail) -> Result<(), AllocError>
         requires { self.old.kept ≤ length self.old.followed.items }
-        ensures queued { OnOk result (StaysQueued self.old self.new) }
+        ensures queued { OnOk result ((table : List (List Literal)) (requirements : List StoredRequirement) →
+            IsQueued self.old trail.now table requirements → IsQueued self.new trail.now table requirements) }
         ensures kept { OnOk result (self.new.kept ≡ self.old.kept) }
         ensures all { OnOk result (length self.new.followed.items ≡ self.new.kept) }
     {
         'places: while self.followed.len() > self.kept {
-            self.forget_last()?;
+            self.forget_last(trail)?;
         }
         Ok(())
     }
@@ -176,7 +244,7 @@ impl DecideQueue {
         ensures followed { OnOk result (IsFollowed self.new trail.now) }
     {
         let from = self.active.len();
-        self.forget()?;
+        self.forget(trail)?;
         'places: while self.kept < trail.len() {
             self.follow_place(trail)?;
         }
@@ -216,6 +284,7 @@ impl DecideQueue {
         match standing_of(trail, literals) {
             Standing::Inactive(variable) => {
                 self.inactive.add(variable.index(), number)?;
+                self.requirers.note(index, variable)?;
                 self.active.swap_remove(place);
                 self.ranks.leave(self.active.as_slice(), place);
                 Ok(None)

@@ -11,7 +11,7 @@ returns-then-is_true-clause-queued c = λ table requirements it.
     let Inside : ℕ → List ℕ → Type 0 = λ index list. Contains list index in
     let woken : List ℕ = list_of c.args.self.now.inactive c.variable_at-variable.result in
     queued-follow c.args.self.now _ c.args.trail.now table requirements c.variable_at-variable.result c.requires.all c.requires.inside
-    c.variable_at-variable.ensures.value c.in_ok-push.ensures.items refl refl
+    c.variable_at-variable.ensures.value c.in_ok-push.ensures.items refl refl refl
     (λ index there. subst (Inside index) (sym took) (Contains-append_left c.args.self.now.active.items woken index there))
     others
     (λ index there. inl (subst (Inside index) (sym took) (Contains-append_right c.args.self.now.active.items woken index there)))
@@ -20,5 +20,5 @@ returns-then-is_true-clause-queued c = λ table requirements it.
 pub returns-clause-queued : goal.returns-clause-queued
 returns-clause-queued c = λ table requirements it.
     queued-follow c.args.self.now _ c.args.trail.now table requirements c.variable_at-variable.result c.requires.all c.requires.inside
-    c.variable_at-variable.ensures.value c.in_ok-push.ensures.items refl refl (λ index there. there) (λ v differs. refl) (λ index there.
+    c.variable_at-variable.ensures.value c.in_ok-push.ensures.items refl refl refl (λ index there. there) (λ v differs. refl) (λ index there.
     inr (there, found-false c.args.trail.now c.variable_at-variable.result c.is_true.result c.is_true.ensures c.if-is_true.false)) it

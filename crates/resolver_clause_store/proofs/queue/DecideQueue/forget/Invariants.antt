@@ -1,14 +1,13 @@
 use Rattle.std.proofs.Common.{◌≡◌, ◌≤◌, List, length}
 use Rattle.resolver_clause_store.specs.declared.literals.Literal.{Literal}
 use Rattle.resolver_clause_store.specs.declared.clauses.StoredRequirement.{StoredRequirement}
-use Rattle.resolver_clause_store.specs.declared.trail.Trail.{Trail}
 use Rattle.resolver_clause_store.specs.Queues.{IsQueued}
 use Rattle.resolver_clause_store.proofs.queue.DecideQueue.forget.Given as goal
 
 abbrev pub invariant-places : goal.invariant-places
 invariant-places l = record {
-  queued : (trail : Trail) (table : List (List Literal)) (requirements : List StoredRequirement) → IsQueued l.initial.self trail table requirements →
-      IsQueued l.self trail table requirements;
+  queued : (table : List (List Literal)) (requirements : List StoredRequirement) → IsQueued l.initial.self l.trail table requirements →
+      IsQueued l.self l.trail table requirements;
   kept : l.self.kept ≡ l.initial.self.kept;
   some : l.self.kept ≤ length l.self.followed.items;
 }
