@@ -25,6 +25,7 @@ pub mod FormulaLemmas
 pub mod PlaceLemmas
 pub mod GrowLemmas
 pub mod KeptLemmas
+pub mod LevelLemmas
 pub mod SettledLemmas
 pub mod WatchListLemmas
 pub mod ParkedLemmas

@@ -1,6 +1,6 @@
 -- The slots of variables, and the list of the variables that have a value.
-use Rattle.std.specs.Prelude.{◌≡◌, ℕ, ◌+◌, ◌<◌, ◌≤◌, Bool, true, false, List, length, slice_index, slice_index_or, Option, Some, None}
-use Rattle.std.specs.Option.{option_map}
+use Rattle.std.specs.Prelude.{◌≡◌, ℕ, ◌+◌, ◌-◌, ◌<◌, ◌≤◌, Bool, true, false, List, length, slice_index, slice_index_or, Option, Some, None}
+use Rattle.std.specs.Option.{option_map, option_map_or}
 use Rattle.resolver_clause_store.specs.declared.trail.Slot.{Slot}
 use Rattle.resolver_clause_store.specs.declared.trail.Reason.{Reason}
 use Rattle.resolver_clause_store.specs.declared.trail.Reason.TheVariants.{Assumed, Decided, Forced}
@@ -35,3 +35,7 @@ AreRising slots =
 abbrev pub AreCounted : List (Option Slot) → Type 0
 AreCounted slots =
     (variable : ℕ) (slot : Slot) → slot_in slots variable ≡ Some slot → (slot.level ≤ slot.place + 1) × (is_decided slot.reason ≡ true → 0 < slot.level)
+
+-- the level of the variable at the last place, 0 if there is none
+abbrev pub last_level : List (Option Slot) → List ℕ → ℕ
+last_level slots order = option_map_or (λ (slot : Slot). slot.level) (slot_in slots (slice_index order (length order - 1))) 0

@@ -1,12 +1,12 @@
 -- The view of a trail.
-use Rattle.std.specs.Prelude.{◌≡◌, ◌≢◌, ℕ, ◌+◌, ◌-◌, ◌<◌, ◌≤◌, Bool, Option, Some, length, is_none, count_by, slice_index}
+use Rattle.std.specs.Prelude.{◌≡◌, ◌≢◌, ℕ, ◌+◌, ◌<◌, ◌≤◌, Bool, Option, Some, length, is_none, count_by, slice_index}
 use Rattle.std.specs.Option.{option_map, option_map_or}
 use Rattle.std.specs.Bool.{beq}
 use Rattle.resolver_clause_store.specs.declared.literals.Literal.{Literal}
 use Rattle.resolver_clause_store.specs.declared.trail.Slot.{Slot}
 use Rattle.resolver_clause_store.specs.declared.trail.Reason.{Reason}
 use Rattle.resolver_clause_store.specs.declared.trail.Trail.{Trail}
-use Rattle.resolver_clause_store.specs.Slots.{slot_in}
+use Rattle.resolver_clause_store.specs.Slots.{last_level, slot_in}
 
 -- the slot of a variable, if it has a value
 abbrev pub slot_of : Trail → ℕ → Option Slot
@@ -34,7 +34,7 @@ place_of trail variable = option_map_or (λ (slot : Slot). slot.place) (slot_of 
 
 -- the level of the trail's last place, 0 if no variable has a value
 abbrev pub level_of : Trail → ℕ
-level_of trail = option_map_or (λ (slot : Slot). slot.level) (slot_of trail (variable_at trail (length_of trail - 1))) 0
+level_of trail = last_level trail.slots trail.order.items
 
 -- whether the literal is true, if its variable has a value
 abbrev pub literal_value : Trail → Literal → Option Bool

@@ -1,7 +1,7 @@
 //! The trail: the variables that have a value, in the order in which they got it.
 
 ghost use Rattle.std.specs.Prelude.{◌<◌, ◌≡◌, ◌≢◌, ◌≤◌, ℕ, IfOk, MatchBool, None, OnErr, OnOk, Some};
-ghost use Rattle.resolver_clause_store.specs.Slots.{AreCounted, AreRising, IsListed, IsPlaced};
+ghost use Rattle.resolver_clause_store.specs.Slots.{AreCounted, AreRising, IsListed, IsPlaced, last_level};
 
 use crate::literals::{Literal, Variable};
 use crate::numbers::narrow;
@@ -28,6 +28,22 @@ pub struct Slot {
     pub reason: Reason,
 }
 
+/// Returns the level of the variable at the last place, or 0 if there is none.
+fn last_level(slots: &Slots, order: &[Variable]) -> u32
+    requires placed { IsPlaced slots.now order.now }
+    requires listed { IsListed slots.now order.now }
+    ensures { result ≡ last_level slots.now order.now }
+{
+    if order.is_empty() {
+        return 0;
+    }
+    let variable = order[order.len() - 1];
+    match slots.at(variable.index()) {
+        Some(slot) => slot.level,
+        None => 0,
+    }
+}
+
 /// The variables in the order in which they got their values, with a slot for each variable.
 ///
 /// Decision levels count from 0, and never fall from place to place. A decision begins a level, and so does an
@@ -36,10 +52,13 @@ pub struct Slot {
 pub struct Trail {
     slots: Slots,
     order: Vec<Variable>,
+    /// The level of the variable at the last place, or 0 if there is none.
+    top: u32,
     ghost placed: { IsPlaced slots order.items },
     ghost listed: { IsListed slots order.items },
     ghost rising: { AreRising slots },
     ghost counted: { AreCounted slots },
+    ghost leveled: { top ≡ last_level slots order.items },
 }
 
 impl Trail {
@@ -58,6 +77,7 @@ impl Trail {
         Trail {
             slots: Slots::new(alloc),
             order: Vec::new(alloc),
+            top: 0,
         }
     }
 
@@ -145,14 +165,7 @@ impl Trail {
         ensures top { IsTop self.now result }
         ensures bound { result ≤ length_of self.now }
     {
-        if self.order.is_empty() {
-            return 0;
-        }
-        let variable = self.variable_at(self.order.len() - 1);
-        match self.slot(variable) {
-            Some(slot) => slot.level as usize,
-            None => 0,
-        }
+        self.top as usize
     }
 
     /// Makes a literal true whose variable has no value, at the highest level or at a new one above it.
@@ -182,6 +195,7 @@ impl Trail {
                 reason,
             },
         );
+        self.top = level;
         Ok(())
     }
 
@@ -238,6 +252,7 @@ impl Trail {
     {
         if let Some(variable) = self.order.pop() {
             self.slots.clear(variable.index());
+            self.top = last_level(&self.slots, &self.order);
         }
     }
 

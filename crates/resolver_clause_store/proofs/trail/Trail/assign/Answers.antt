@@ -1,4 +1,5 @@
 use Rattle.std.proofs.Common.{arith, rules}
+use Rattle.resolver_clause_store.proofs.LevelLemmas.{level-push}
 use Rattle.resolver_clause_store.proofs.SlotLemmas.{placed-push, listed-push, rising-push, counted-push}
 use Rattle.resolver_clause_store.proofs.trail.Trail.assign.Goals as goal
 
@@ -8,6 +9,7 @@ invariant_of-self c = record {
   listed = rw c.in_err-push.ensures.items c.args.self.now.listed;
   rising = c.args.self.now.rising;
   counted = c.args.self.now.counted;
+  leveled = rw c.in_err-push.ensures.items c.args.self.now.leveled;
 }
 
 pub invariant_of-self-2-clause-placed : goal.invariant_of-self-2-clause-placed
@@ -27,3 +29,7 @@ pub invariant_of-self-2-clause-counted : goal.invariant_of-self-2-clause-counted
 invariant_of-self-2-clause-counted c =
     rw (c.put.ensures, c.index.ensures) (counted-push _ c.args.self.now.order.items _ _ c.args.self.now.counted c.requires.inside (search rules)
     (omega (arith, c.requires.bound, c.in_ok-level.ensures)) (λ d. omega (arith, (c.requires.begins d).1, c.in_ok-level.ensures)))
+
+pub invariant_of-self-2-clause-leveled : goal.invariant_of-self-2-clause-leveled
+invariant_of-self-2-clause-leveled c =
+    rw (c.put.ensures, c.index.ensures, c.in_ok-push.ensures.items) (level-push _ c.args.self.now.order.items _ _ c.requires.inside)

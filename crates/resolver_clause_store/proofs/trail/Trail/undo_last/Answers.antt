@@ -21,3 +21,14 @@ returns-in-Some c = record {
   kept = λ variable slot at early. rw (c.clear.ensures, c.index.ensures) (kept-pop _ _ _ _ c.args.self.now.placed c.in-Some.ensures.items variable slot at (search rules));
   stays = λ variable slot at. stays-pop _ _ _ _ c.args.self.now.placed c.in-Some.ensures.items variable slot (rw (c.clear.ensures, c.index.ensures) at at);
 }
+
+pub last_level-self-requires-clause-listed : goal.last_level-self-requires-clause-listed
+last_level-self-requires-clause-listed c =
+    rw (c.clear.ensures, c.index.ensures, c.deref.ensures.value) (listed-pop _ _ _ _ c.args.self.now.placed c.args.self.now.listed c.in-Some.ensures.items)
+
+pub last_level-self-requires-clause-placed : goal.last_level-self-requires-clause-placed
+last_level-self-requires-clause-placed c =
+    rw (c.clear.ensures, c.index.ensures, c.deref.ensures.value) (placed-pop _ _ _ _ c.args.self.now.placed c.in-Some.ensures.items)
+
+pub invariant_of-self-clause-leveled : goal.invariant_of-self-clause-leveled
+invariant_of-self-clause-leveled c = rw c.deref.ensures.value at c.last_level-self.ensures
