@@ -52,10 +52,14 @@ pub places-preserved-in-Continue-1 : goal.places-preserved-in-Continue-1
 places-preserved-in-Continue-1 c = grind (arith, common_steps)
 
 pub returns-clause-inside : goal.returns-clause-inside
-returns-clause-inside g c = grind (arith, common_steps)
+returns-clause-inside c = λ some.
+    let stands = (c.places.invariant.2.mark some).stands in
+    omega (arith, stands.place_is, (c.args.trail.now.listed _ _ stands.is).0)
 
 pub returns-clause-none : goal.returns-clause-none
-returns-clause-none g c = grind (arith, common_steps)
+returns-clause-none c = λ none. record {
+  before = λ variable slot marked at. omega (arith, c.places.invariant.2.before.before variable slot marked at, c.places-test.false);
+}
 
 pub returns-clause-resolvent : goal.returns-clause-resolvent
 returns-clause-resolvent c = grind (arith, common_steps)

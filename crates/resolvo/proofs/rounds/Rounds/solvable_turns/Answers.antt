@@ -46,6 +46,14 @@ loop-solvable-preserved g c =
           (c.soft_turn.ensures.led root (map Solvable c.loop-solvable.yielded) (before.between root b) (before.led root b led));
     }
 
+pub returns-clause-between : goal.returns-clause-between
+returns-clause-between g c = λ root b. (
+  c.loop-solvable.yielded,
+  gives_all g.I.Iterator.next_gives c.args.soft c.into_iter-solvable-iterator.result _ c.into_iter-solvable-iterator.ensures.into_iter_gives
+      c.loop-solvable.yielded c.loop-solvable.yielded_by c.next.result _ c.in-None.is c.next.ensures.steps,
+  c.loop-solvable.invariant.between root b,
+)
+
 pub returns-clause-over : goal.returns-clause-over
 returns-clause-over g c = λ root b led.
     let it = c.loop-solvable.invariant in (
