@@ -14,6 +14,7 @@ mod laws;
 mod listing;
 mod literals;
 mod progress;
+mod runs;
 mod sources;
 mod table;
 
