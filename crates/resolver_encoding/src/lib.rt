@@ -29,3 +29,4 @@ pub use laws::{
     finished_searches_are_answers, finished_trails_are_answers, read_trails_are_answers,
 };
 pub use progress::Progress;
+pub use runs::Runs;
