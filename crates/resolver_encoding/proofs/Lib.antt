@@ -35,3 +35,4 @@ pub mod LedLemmas
 pub mod TableLemmas
 pub mod LedReading
 pub mod StoredKindLemmas
+pub mod RunLemmas

@@ -1,41 +1,64 @@
 -- How the kinds of clauses are stored.
-use Rattle.std.specs.Prelude.{◌≡◌, ℕ, ◌<◌, ⊤, List, [], ◌++◌, length, slice_get}
+use Rattle.std.specs.Prelude.{◌≡◌, ℕ, ◌+◌, ◌^◌, ◌<◌, ⊤, Some, List, [], ◌++◌, length, slice_get}
 use Rattle.std.specs.Option.{option_map_or}
 use Rattle.resolver_clause_store.specs.declared.ClauseKind.{ClauseKind}
 use Rattle.resolver_clause_store.specs.declared.ClauseKind.TheVariants.{InstallRoot, Requires, AnyOf, Constrains, GateRequires, ConstrainsExcluded}
 use Rattle.resolver_clause_store.specs.declared.ClauseKind.TheVariants.{ConstrainsParent, HasBit, Lock, Excluded}
+use Rattle.resolver_encoding.specs.Codes.{bit}
+use Rattle.resolver_encoding.specs.Runs.{next_of}
 use Rattle.resolver_encoding.specs.declared.kinds.ConditionalClause.{ConditionalClause}
 use Rattle.resolver_encoding.specs.declared.kinds.StoredKind.{StoredKind}
 use Rattle.resolver_encoding.specs.declared.kinds.StoredKind.TheVariants.{InstallRoot as Root, Requires as Plain, Conditional, AnyOf as Help}
 use Rattle.resolver_encoding.specs.declared.kinds.StoredKind.TheVariants.{Constrains as Pair, GateRequires as Gate, ConstrainsExcluded as Outside}
-use Rattle.resolver_encoding.specs.declared.kinds.StoredKind.TheVariants.{ConstrainsParent as Parent, HasBit as Bit, Lock as Locks, Excluded as Excludes}
+use Rattle.resolver_encoding.specs.declared.kinds.StoredKind.TheVariants.{ConstrainsParent as Parent, HasBits as Bits, Lock as Locks, Excluded as Excludes}
 
 -- the kind of a conditional clause
 abbrev pub kind_of : {N S : Type 0} → ConditionalClause S → ClauseKind N S
 kind_of clause = Requires clause.parent clause.disjunct clause.requirement
 
--- the kind that is stored like this, where these are the conditional clauses
-abbrev pub kind_in : {N S : Type 0} → List (ConditionalClause S) → StoredKind N S → ClauseKind N S
-kind_in conditional Root = InstallRoot
-kind_in conditional (Plain parent requirement) = Requires parent [] requirement
-kind_in conditional (Conditional place) = option_map_or kind_of (slice_get conditional place) InstallRoot
-kind_in conditional (Help helper candidate) = AnyOf helper candidate
-kind_in conditional (Pair parent version_set candidate) = Constrains parent version_set candidate
-kind_in conditional (Gate requirement) = GateRequires requirement
-kind_in conditional (Outside candidate version_set) = ConstrainsExcluded candidate version_set
-kind_in conditional (Parent parent version_set) = ConstrainsParent parent version_set
-kind_in conditional (Bit name instance index value) = HasBit name instance index value
-kind_in conditional (Locks locked forbidden) = Lock locked forbidden
-kind_in conditional (Excludes solvable reason) = Excluded solvable reason
+-- the kind of the clause that is so many steps after the first one that is stored like this, where these are the conditional clauses
+abbrev pub kind_in : {N S : Type 0} → List (ConditionalClause S) → StoredKind N S → ℕ → ClauseKind N S
+kind_in conditional Root steps = InstallRoot
+kind_in conditional (Plain parent requirement) steps = Requires parent [] requirement
+kind_in conditional (Conditional place) steps = option_map_or kind_of (slice_get conditional place) InstallRoot
+kind_in conditional (Help helper candidate) steps = AnyOf helper candidate
+kind_in conditional (Pair parent version_set candidate) steps = Constrains parent version_set candidate
+kind_in conditional (Gate requirement) steps = GateRequires requirement
+kind_in conditional (Outside candidate version_set) steps = ConstrainsExcluded candidate version_set
+kind_in conditional (Parent parent version_set) steps = ConstrainsParent parent version_set
+kind_in conditional (Bits name instance first digits) steps = HasBit name instance (first + steps) (bit digits steps)
+kind_in conditional (Locks locked forbidden) steps = Lock locked forbidden
+kind_in conditional (Excludes solvable reason) steps = Excluded solvable reason
 
--- if a stored kind is that of a conditional clause, that clause is one of so many
-abbrev pub IsStored : {N S : Type 0} → ℕ → StoredKind N S → Type 0
-IsStored count (Conditional place) = place < count
-IsStored count stored = ⊤
+-- the same for a stored kind and the number of steps from there
+abbrev pub kind_at : {N S : Type 0} → List (ConditionalClause S) → StoredKind N S × ℕ → ClauseKind N S
+kind_at conditional entry = kind_in conditional entry.0 entry.1
+
+-- if a stored kind is that of a conditional clause, that clause is one of so many; if it is that of digits, they reach this far
+abbrev pub IsStored : {N S : Type 0} → ℕ → StoredKind N S → ℕ → Type 0
+IsStored count (Conditional place) steps = place < count
+IsStored count (Bits name instance first digits) steps = (steps < 32) × (first + steps < 2 ^ 32)
+IsStored count stored steps = ⊤
+
+abbrev pub IsStoredAt : {N S : Type 0} → ℕ → StoredKind N S × ℕ → Type 0
+IsStoredAt count entry = IsStored count entry.0 entry.1
 
 -- the kind is stored like this, and no conditional clause changed
 pub record Stores {N S : Type 0} (old new : List (ConditionalClause S)) (stored : StoredKind N S) (kind : ClauseKind N S) : Type 0 where
-  pub is : kind_in new stored ≡ kind
-  pub inside : IsStored (length new) stored
+  pub is : kind_in new stored 0 ≡ kind
+  pub inside : IsStored (length new) stored 0
   pub more : List (ConditionalClause S)
   pub grown : new ≡ old ++ more
+
+-- if this is stored in place of the last kind, the clauses so many steps after it keep their kinds, and the next one has this kind
+pub record Lengthens {N S : Type 0} (last : StoredKind N S) (steps : ℕ) (kind : ClauseKind N S) (longer : StoredKind N S) : Type 0 where
+  pub same : (conditional : List (ConditionalClause S)) (k : ℕ) → k < steps → kind_in conditional longer k ≡ kind_in conditional last k
+  pub is : (conditional : List (ConditionalClause S)) → kind_in conditional longer steps ≡ kind
+  pub inside : (count k : ℕ) → k < steps + 1 → IsStored count longer k
+
+-- the same for the last run of what is stored
+pub record LengthensLast {N S : Type 0} (stored : List (StoredKind N S × ℕ)) (kind : ClauseKind N S) (longer : StoredKind N S) : Type 0 where
+  pub last : StoredKind N S
+  pub steps : ℕ
+  pub next : next_of stored ≡ Some (last, steps)
+  pub lengthens : Lengthens last steps kind longer

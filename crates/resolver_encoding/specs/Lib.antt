@@ -22,3 +22,4 @@ pub mod Turns
 pub mod LeftOut
 pub mod Led
 pub mod Kinds
+pub mod Runs

@@ -1,10 +1,13 @@
 //! The kinds of clauses, as they are stored.
 
-ghost use Rattle.std.specs.Prelude.{◌<◌, ◌≡◌, ◌++◌, ◌∷◌, [], IfOk, OnErr, OnOk, length, slice_index_or, take};
-ghost use Rattle.resolver_clause_store.specs.declared.ClauseKind.TheVariants.{InstallRoot, Requires};
-ghost use Rattle.resolver_encoding.specs.Kinds.{IsStored, Stores, kind_in};
+ghost use Rattle.std.specs.Prelude.{◌<◌, ◌≡◌, ◌++◌, ◌∷◌, [], IfOk, IfSome, OnErr, OnOk, length, slice_index_or, take};
+ghost use Rattle.resolver_clause_store.specs.Laws.{IsIdentity};
+ghost use Rattle.resolver_clause_store.specs.declared.ClauseKind.TheVariants.{HasBit as HasBitKind, InstallRoot, Requires};
+ghost use Rattle.resolver_encoding.specs.Kinds.{IsStored, Lengthens, LengthensLast, Stores, kind_in};
 ghost use Rattle.resolver_encoding.specs.declared.kinds.StoredKind.TheVariants.{Conditional};
 
+use crate::codes::{has_digit, with_digit};
+use crate::runs::Runs;
 use resolver_clause_store::{
     By, ClauseKind, Disjunct, Origin, Requirement, StringId, VersionSetId, narrow,
 };
@@ -19,7 +22,8 @@ pub struct ConditionalClause<S> {
     requirement: Requirement,
 }
 
-/// The kind of a clause, as it is stored.
+/// The kind of a clause, or of a run of clauses, as it is stored. The clauses of a code's digits, one after another, are
+/// such a run.
 ///
 /// Few clauses depend on a condition. They are in a list of their own, so the others have no room for a disjunct.
 #[derive(Clone, Copy)]
@@ -38,8 +42,8 @@ pub enum StoredKind<N, S> {
     ConstrainsExcluded(S, VersionSetId),
     /// The requirer and the version set.
     ConstrainsParent(By<S>, VersionSetId),
-    /// The package, the instance, the bit's index and its value.
-    HasBit(N, S, u32, bool),
+    /// The package, the instance, the index of the first bit, and a number whose digits are the values from there on.
+    HasBits(N, S, u32, u32),
     /// The locked solvable and the forbidden one.
     Lock(S, S),
     /// The solvable and the reason.
@@ -106,7 +110,7 @@ fn stored_of<N, S: Drop>(
             instance,
             index,
             value,
-        } => StoredKind::HasBit(name, instance, index, value),
+        } => StoredKind::HasBits(name, instance, index, with_digit(0, 0, value)),
         ClauseKind::Lock { locked, forbidden } => StoredKind::Lock(locked, forbidden),
         ClauseKind::Excluded { solvable, reason } => StoredKind::Excluded(solvable, reason),
     };
@@ -128,14 +132,15 @@ fn kind_of<N, S: Copy>(
     })
 }
 
-/// Returns a stored kind.
+/// Returns the kind of the clause that is so many steps after the first one that is stored like this.
 fn read<N: Copy, S: Copy>(
     alloc: Global,
     conditional: &[ConditionalClause<S>],
     stored: StoredKind<N, S>,
+    steps: usize,
 ) -> Result<ClauseKind<N, S>, AllocError>
-    requires { IsStored (length conditional.now) stored }
-    ensures { IfOk result (λ kind. kind ≡ kind_in conditional.now stored) }
+    requires { IsStored (length conditional.now) stored steps }
+    ensures { IfOk result (λ kind. kind ≡ kind_in conditional.now stored steps) }
 {
     let kind = match stored {
         StoredKind::InstallRoot => ClauseKind::InstallRoot,
@@ -160,11 +165,11 @@ fn read<N: Copy, S: Copy>(
             parent,
             version_set,
         },
-        StoredKind::HasBit(name, instance, index, value) => ClauseKind::HasBit {
+        StoredKind::HasBits(name, instance, first, digits) => ClauseKind::HasBit {
             name,
             instance,
-            index,
-            value,
+            index: first + steps as u32,
+            value: has_digit(digits as usize, steps as u32),
         },
         StoredKind::Lock(locked, forbidden) => ClauseKind::Lock { locked, forbidden },
         StoredKind::Excluded(solvable, reason) => ClauseKind::Excluded { solvable, reason },
@@ -172,24 +177,78 @@ fn read<N: Copy, S: Copy>(
     Ok(kind)
 }
 
+/// Returns how the last run is stored once it has a clause for this digit, too, or `None` if the digit is not the next
+/// one of the same code.
+fn with_next_digit<N: Copy + Eq, S: Copy + Eq>(
+    last: StoredKind<N, S>,
+    steps: usize,
+    name: N,
+    instance: S,
+    index: u32,
+    value: bool,
+) -> Option<StoredKind<N, S>>
+    requires names { IsIdentity N.eq }
+    requires solvables { IsIdentity S.eq }
+    ensures { IfSome result (Lengthens last steps (HasBitKind name instance index value)) }
+{
+    match last {
+        StoredKind::HasBits(last_name, last_instance, first, digits) => {
+            if last_name != name || last_instance != instance {
+                return None;
+            }
+            if steps >= 32 || first as usize + steps != index as usize {
+                return None;
+            }
+            let digits = with_digit(digits, steps as u32, value);
+            Some(StoredKind::HasBits(name, instance, first, digits))
+        }
+        _ => None,
+    }
+}
+
+/// Returns how the last run is stored once it has a clause of this kind, too, or `None` if the clause begins a run.
+fn longer<N: Copy + Eq, S: Copy + Eq>(
+    stored: &Runs<StoredKind<N, S>>,
+    kind: &ClauseKind<N, S>,
+) -> Option<StoredKind<N, S>>
+    requires names { IsIdentity N.eq }
+    requires solvables { IsIdentity S.eq }
+    ensures { IfSome result (LengthensLast stored.now kind.now) }
+{
+    let Some((last, steps)) = stored.next() else {
+        return None;
+    };
+    match kind {
+        ClauseKind::HasBit {
+            name,
+            instance,
+            index,
+            value,
+        } => with_next_digit(last, steps, *name, *instance, *index, *value),
+        _ => None,
+    }
+}
+
 /// The kinds of clauses by number. In contracts, they are the list of the kinds.
+///
+/// The clauses of a code, one after another, take no more memory than one clause.
 #[derive(Drop)]
-pub struct ClauseKinds<N, S> {
-    stored: Vec<StoredKind<N, S>>,
+pub struct ClauseKinds<N: Copy, S: Copy> {
+    stored: Runs<StoredKind<N, S>>,
     /// The clauses that depend on a condition.
     conditional: Vec<ConditionalClause<S>>,
 }
 
-impl<N, S> Model for ClauseKinds<N, S> {
+impl<N: Copy, S: Copy> Model for ClauseKinds<N, S> {
     ghost use Rattle.std.specs.Prelude.{List, All, length, map};
     ghost use Rattle.resolver_clause_store.specs.declared.ClauseKind.{ClauseKind};
-    ghost use Rattle.resolver_encoding.specs.Kinds.{IsStored, kind_in};
+    ghost use Rattle.resolver_encoding.specs.Kinds.{IsStoredAt, kind_at};
 
     ghost Value = { List (ClauseKind N S) };
 
-    ghost view = { λ k. map (kind_in k.conditional.items) k.stored.items };
+    ghost view = { λ k. map (kind_at k.conditional.items) k.stored };
 
-    ghost invariant = { λ k. All (IsStored (length k.conditional.items)) k.stored.items };
+    ghost invariant = { λ k. All (IsStoredAt (length k.conditional.items)) k.stored };
 }
 
 impl<N: Copy + Drop, S: Copy + Drop> ClauseKinds<N, S> {
@@ -198,7 +257,7 @@ impl<N: Copy + Drop, S: Copy + Drop> ClauseKinds<N, S> {
         ensures { result ≡ [] }
     {
         ClauseKinds {
-            stored: Vec::new(alloc),
+            stored: Runs::new(alloc),
             conditional: Vec::new(alloc),
         }
     }
@@ -212,12 +271,26 @@ impl<N: Copy + Drop, S: Copy + Drop> ClauseKinds<N, S> {
 
     /// Appends the kind of a new clause. An error changes nothing.
     pub fn push(&mut self, kind: ClauseKind<N, S>) -> Result<(), AllocError>
+    where
+        N: Eq,
+        S: Eq,
+        requires names { IsIdentity N.eq }
+        requires solvables { IsIdentity S.eq }
         ensures kinds { OnOk result (self.new ≡ self.old ++ kind ∷ []) }
         ensures unchanged { OnErr result (self.new ≡ self.old) }
     {
-        let stored = stored_of(&mut self.conditional, kind)?;
-        self.stored.push(stored)?;
-        Ok(())
+        match longer(&self.stored, &kind) {
+            Some(stored) => {
+                drop(kind);
+                self.stored.go_on_as(stored)?;
+                Ok(())
+            }
+            None => {
+                let stored = stored_of(&mut self.conditional, kind)?;
+                self.stored.begin(stored)?;
+                Ok(())
+            }
+        }
     }
 
     /// Removes all kinds but the first `count` ones.
@@ -232,7 +305,8 @@ impl<N: Copy + Drop, S: Copy + Drop> ClauseKinds<N, S> {
         requires { number < length self.now }
         ensures { IfOk result (λ kind. kind ≡ slice_index_or self.now number InstallRoot) }
     {
-        let kind = read(alloc, &self.conditional, self.stored[number])?;
+        let (stored, steps) = self.stored.at(number);
+        let kind = read(alloc, &self.conditional, stored, steps)?;
         Ok(kind)
     }
 }

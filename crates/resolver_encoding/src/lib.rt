@@ -14,6 +14,7 @@ mod laws;
 mod listing;
 mod literals;
 mod progress;
+mod runs;
 mod sources;
 mod table;
 
@@ -28,3 +29,4 @@ pub use laws::{
     finished_searches_are_answers, finished_trails_are_answers, read_trails_are_answers,
 };
 pub use progress::Progress;
+pub use runs::Runs;

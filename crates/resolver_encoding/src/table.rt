@@ -202,6 +202,8 @@ impl<N: Copy + Eq + Hash + Drop, S: Copy + Eq + Hash + Drop> ClauseTable<N, S> {
         literals: &[Literal],
         ends: Vec<usize>,
     ) -> Result<(), Exhausted>
+        requires names { IsIdentity N.eq }
+        requires solvables { IsIdentity S.eq }
         ensures added { OnOk result (table_in self.new ≡ record (table_in self.old) {
           literals = (table_in self.old).literals ++ literals.now ∷ [];
           kinds = (table_in self.old).kinds ++ kind ∷ [];
@@ -240,6 +242,8 @@ impl<N: Copy + Eq + Hash + Drop, S: Copy + Eq + Hash + Drop> ClauseTable<N, S> {
         kind: ClauseKind<N, S>,
         literals: &[Literal],
     ) -> Result<(), Exhausted>
+        requires names { IsIdentity N.eq }
+        requires solvables { IsIdentity S.eq }
         ensures kinds { OnOk result (self.new.kinds ≡ self.old.kinds ++ kind ∷ []) }
         ensures literals { OnOk result (self.new.literals ≡ self.old.literals ++ literals.now ∷ []) }
         ensures unchanged { OnErr result (table_in self.new ≡ table_in self.old) }

@@ -5,7 +5,6 @@ pub mod TwoLiteralLemmas
 pub mod AttachingLemmas
 pub mod WatchedLemmas
 pub mod ReturningLemmas
-pub mod RunLemmas
 pub mod StoredSourceLemmas
 pub mod SourceLemmas
 pub mod MarkLemmas

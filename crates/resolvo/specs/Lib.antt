@@ -13,7 +13,6 @@ pub mod Attaching
 pub mod Returning
 pub mod WatchedClauses
 pub mod Resolvents
-pub mod Runs
 pub mod Places
 pub mod Sources
 pub mod Derivations

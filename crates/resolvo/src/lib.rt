@@ -14,7 +14,6 @@ mod places;
 mod problem;
 mod propagator;
 mod rounds;
-mod runs;
 #[cfg(test)]
 mod scanning;
 mod solver;

@@ -2,11 +2,11 @@
 
 ghost use Rattle.std.specs.Option.{option_map};
 ghost use Rattle.std.specs.Prelude.{◌<◌, ◌≡◌, ◌≢◌, ◌++◌, ◌∷◌, [], MatchBool, OnErr, OnOk, Some, length, slice_index};
+ghost use Rattle.resolver_encoding.specs.Runs.{next_of};
 ghost use Rattle.resolvo.specs.Places.{place_after};
-ghost use Rattle.resolvo.specs.Runs.{next_of};
 
-use crate::runs::Runs;
 use resolver_clause_store::narrow;
+use resolver_encoding::Runs;
 use std::alloc::{AllocError, Global};
 use std::marker::Model;
 

@@ -2,12 +2,12 @@
 
 ghost use Rattle.std.specs.Option.{option_map};
 ghost use Rattle.std.specs.Prelude.{◌<◌, ◌≡◌, ◌≢◌, ◌^◌, ◌++◌, ◌∷◌, [], MatchBool, OnErr, OnOk, Some, length};
+ghost use Rattle.resolver_encoding.specs.Runs.{next_of};
 ghost use Rattle.resolvo.specs.Derivations.{causes_at, given_at};
-ghost use Rattle.resolvo.specs.Runs.{next_of};
 ghost use Rattle.resolvo.specs.Sources.{given_as, learnt_from, stored_after, stored_in};
 
-use crate::runs::Runs;
 use resolver_clause_store::narrow;
+use resolver_encoding::Runs;
 use std::alloc::{AllocError, Global};
 use std::marker::Model;
 

@@ -1,5 +1,5 @@
 use Rattle.resolvo.specs.Sources.{stored_after}
-use Rattle.resolvo.proofs.RunLemmas.{went-on}
+use Rattle.resolver_encoding.proofs.RunLemmas.{went-on}
 use Rattle.resolvo.proofs.sources.push_source.Goals as goal
 
 pub returns-then-goes_on-clause-added : goal.returns-then-goes_on-clause-added

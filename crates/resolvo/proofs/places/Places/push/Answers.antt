@@ -1,6 +1,6 @@
 use Rattle.std.proofs.Common.{◌∙◌, ◌++◌, ◌∷◌, [], ap}
 use Rattle.resolvo.specs.Places.{place_after}
-use Rattle.resolvo.proofs.RunLemmas.{went-on}
+use Rattle.resolver_encoding.proofs.RunLemmas.{went-on}
 use Rattle.resolvo.proofs.places.Places.push.Goals as goal
 
 pub returns-then-goes_on-clause-added : goal.returns-then-goes_on-clause-added

@@ -1,9 +1,9 @@
 //! Lists that are stored as runs.
 
 ghost use Rattle.std.specs.List.Sorted.{IsNonDecreasingBy};
-ghost use Rattle.std.specs.Prelude.{◌<◌, ◌≤◌, ◌≡◌, ◌-◌, ◌^◌, ◌++◌, ◌∷◌, ℕ, [], IfSome, OnErr, OnOk, Some, length, nat_le, slice_get};
-ghost use Rattle.resolvo.specs.Runs.{HaveBegun};
-ghost use Rattle.resolvo.specs.declared.runs.Run.{Run};
+ghost use Rattle.std.specs.Prelude.{◌<◌, ◌≤◌, ◌≡◌, ◌-◌, ◌^◌, ◌++◌, ◌∷◌, ℕ, [], IfSome, OnErr, OnOk, Some, length, nat_lt, slice_get, take};
+ghost use Rattle.resolver_encoding.specs.Runs.{BeginBefore, ChangesLast, GoesOnAs};
+ghost use Rattle.resolver_encoding.specs.declared.runs.Run.{Run};
 
 use resolver_clause_store::narrow;
 use std::alloc::{AllocError, Global};
@@ -32,7 +32,7 @@ pub struct Runs<T: Copy> {
 
 impl<T: Copy> Model for Runs<T> {
     ghost use Rattle.std.specs.Prelude.{ℕ, List};
-    ghost use Rattle.resolvo.specs.Runs.{AreRuns, entries_of};
+    ghost use Rattle.resolver_encoding.specs.Runs.{AreRuns, entries_of};
 
     ghost Value = { List (T × ℕ) };
 
@@ -49,20 +49,29 @@ fn entry_in<T: Copy>(run: &Run<T>, index: usize) -> (T, usize)
     (run.entry, index - run.first as usize)
 }
 
-/// Returns the number of runs that begin at an index or before it.
-fn begun_by<T: Copy>(runs: &[Run<T>], index: usize) -> usize
+/// Returns the number of runs that begin before an index.
+fn begun_before<T: Copy>(runs: &[Run<T>], index: usize) -> usize
     requires { IsNonDecreasingBy (λ (run : Run T). run.first) runs.now }
-    ensures { HaveBegun runs.now index result }
+    ensures { BeginBefore runs.now index result }
 {
     runs.partition_point(
         |run: &Run<T>| -> bool
-            ensures { result ≡ nat_le run.now.first index }
-        { run.first as usize <= index },
+            ensures { result ≡ nat_lt run.now.first index }
+        { (run.first as usize) < index },
     )
 }
 
+/// Lets the last run have this first entry in place of its own.
+fn change_last<T: Copy>(runs: &mut Vec<Run<T>>, entry: T)
+    requires { 0 < length runs.old.items }
+    ensures { ChangesLast entry runs.old.items runs.new.items }
+{
+    let last = runs.len() - 1;
+    runs[last].entry = entry;
+}
+
 impl<T: Copy> Runs<T> {
-    ghost use Rattle.resolvo.specs.Runs.{next_of};
+    ghost use Rattle.resolver_encoding.specs.Runs.{next_of};
 
     /// Returns an empty list.
     pub fn new(alloc: Global) -> Self
@@ -119,13 +128,37 @@ impl<T: Copy> Runs<T> {
         Ok(())
     }
 
+    /// Appends the entry that comes after the last one, once the last run has this first entry in place of its own. An
+    /// error changes nothing.
+    pub fn go_on_as(&mut self, entry: T) -> Result<(), AllocError>
+        requires { 0 < length self.old }
+        ensures added { OnOk result (GoesOnAs entry self.old self.new) }
+        ensures unchanged { OnErr result (self.new ≡ self.old) }
+    {
+        self.count = narrow(self.count as usize + 1)?;
+        change_last(&mut self.runs, entry);
+        Ok(())
+    }
+
+    /// Removes all entries but the first `count` ones.
+    pub fn truncate(&mut self, count: usize)
+        ensures { self.new ≡ take count self.old }
+    {
+        if count >= self.count as usize {
+            return;
+        }
+        let begun = begun_before(&self.runs, count);
+        self.runs.truncate(begun);
+        self.count = count as u32;
+    }
+
     /// Returns the entry with this index, which it finds by a binary search over the runs.
     pub fn at(&self, index: usize) -> (T, usize)
         requires { index < length self.now }
         ensures value { slice_get self.now index ≡ Some result }
         ensures few { result.1 < 2 ^ 32 }
     {
-        let begun = begun_by(&self.runs, index);
+        let begun = begun_before(&self.runs, index + 1);
         entry_in(&self.runs[begun - 1], index)
     }
 }

@@ -1,7 +1,7 @@
 use Rattle.std.proofs.Common.{ap, ◌∙◌, ◌++◌, ◌∷◌, []}
-use Rattle.resolvo.specs.Runs.{next_of}
-use Rattle.resolvo.proofs.RunLemmas.{few-entries, gone_on}
-use Rattle.resolvo.proofs.runs.Runs.go_on.Goals as goal
+use Rattle.resolver_encoding.specs.Runs.{next_of}
+use Rattle.resolver_encoding.proofs.RunLemmas.{few-entries, gone_on}
+use Rattle.resolver_encoding.proofs.runs.Runs.go_on.Goals as goal
 
 pub returns-clause-added : goal.returns-clause-added
 returns-clause-added g c = λ entry is. rw c.in_ok-self-inside.ensures

@@ -1,7 +1,7 @@
 use Rattle.std.proofs.Common.{sym, ap, ◌∙◌, Some}
-use Rattle.resolvo.specs.Runs.{next_of}
-use Rattle.resolvo.proofs.RunLemmas.{next-of_last}
-use Rattle.resolvo.proofs.runs.Runs.next.Goals as goal
+use Rattle.resolver_encoding.specs.Runs.{next_of}
+use Rattle.resolver_encoding.proofs.RunLemmas.{next-of_last}
+use Rattle.resolver_encoding.proofs.runs.Runs.next.Goals as goal
 
 pub returns-in-Some-clause-value : goal.returns-in-Some-clause-value
 returns-in-Some-clause-value g c =

@@ -1,6 +1,6 @@
 use Rattle.std.proofs.Common.{ap, ◌∙◌, ◌++◌, ◌∷◌, [], refl}
-use Rattle.resolvo.proofs.RunLemmas.{begun-entries, few-entries}
-use Rattle.resolvo.proofs.runs.Runs.begin.Goals as goal
+use Rattle.resolver_encoding.proofs.RunLemmas.{begun-entries, few-entries}
+use Rattle.resolver_encoding.proofs.runs.Runs.begin.Goals as goal
 
 pub returns-clause-added : goal.returns-clause-added
 returns-clause-added g c = rw (c.in_ok-push.ensures.items, c.in_ok-count.ensures)
