@@ -24,12 +24,12 @@ pub returns-in_ok-add_requirement-in-Requires : goal.returns-in_ok-add_requireme
 returns-in_ok-add_requirement-in-Requires g c =
     record {
       added = let u = g.D.Interner.universe c.args.provider.now in
-    let Adds : ClauseKind g.row.D-NameId.Denot g.row.D-SolvableId.Denot → Type 0 =
-    λ k. AddsRules (StatesRule u c.args.sources.now k) c.args.listing.now c.add_requirement.new.listing in
-    let Of : List VersionSetId → Type 0 =
-    λ list. AddsRules (λ st. st ≡ requires c.in-Requires.parent c.in-Requires.requirement (requirement_candidates u c.in-Requires.requirement)
-    (map (matching u) list)) c.args.listing.now c.add_requirement.new.listing in
-    subst Adds (sym c.in-Requires.is) (subst Of c.as_slice-disjunct.ensures c.in_ok-add_requirement-in-Requires.ensures.added);
+          let Adds : ClauseKind g.row.D-NameId.Denot g.row.D-SolvableId.Denot → Type 0 =
+          λ k. AddsRules (StatesRule u c.args.sources.now k) c.args.listing.now c.add_requirement.new.listing in
+          let Of : List VersionSetId → Type 0 =
+          λ list. AddsRules (λ st. st ≡ requires c.in-Requires.parent c.in-Requires.requirement (requirement_candidates u c.in-Requires.requirement)
+          (map (matching u) list)) c.args.listing.now c.add_requirement.new.listing in
+          subst Adds (sym c.in-Requires.is) (subst Of c.as_slice-disjunct.ensures c.in_ok-add_requirement-in-Requires.ensures.added);
       is_true = c.add_requirement.ensures.is_true;
       refusal = tt;
     }
@@ -46,15 +46,15 @@ pub returns-in_ok-add_gate-in-GateRequires : goal.returns-in_ok-add_gate-in-Gate
 returns-in_ok-add_gate-in-GateRequires g c =
     record {
       added = let u = g.D.Interner.universe c.args.provider.now in
-    let r = c.in-GateRequires.requirement in
-    let Adds : ClauseKind g.row.D-NameId.Denot g.row.D-SolvableId.Denot → Type 0 =
-    λ k. AddsRules (StatesRule u c.args.sources.now k) c.args.listing.now c.add_gate.new.listing in
-    let named = IsNamed c.args.sources.now.gates r in
-    subst Adds (sym c.in-GateRequires.is) (added_same c.args.listing.now c.add_gate.new.listing
-    (SomeOf c.requirers.result.now (λ s st. st ≡ requires (BySolvable s) r (requirement_candidates u r) [])) _
-    (λ st h. (h.0, All-contains named c.requirers.result.now h.0 c.requirers.ensures.each h.1, h.2))
-    (λ st h. (h.0, c.requirers.ensures.every c.requires.groups h.0 h.1, h.2))
-    c.in_ok-add_gate-in-GateRequires.ensures.added);
+          let r = c.in-GateRequires.requirement in
+          let Adds : ClauseKind g.row.D-NameId.Denot g.row.D-SolvableId.Denot → Type 0 =
+          λ k. AddsRules (StatesRule u c.args.sources.now k) c.args.listing.now c.add_gate.new.listing in
+          let named = IsNamed c.args.sources.now.gates r in
+          subst Adds (sym c.in-GateRequires.is) (added_same c.args.listing.now c.add_gate.new.listing
+          (SomeOf c.requirers.result.now (λ s st. st ≡ requires (BySolvable s) r (requirement_candidates u r) [])) _
+          (λ st h. (h.0, All-contains named c.requirers.result.now h.0 c.requirers.ensures.each h.1, h.2))
+          (λ st h. (h.0, c.requirers.ensures.every c.requires.groups h.0 h.1, h.2))
+          c.in_ok-add_gate-in-GateRequires.ensures.added);
       is_true = c.add_gate.ensures.is_true;
       refusal = tt;
     }
@@ -73,7 +73,7 @@ returns-in_ok-constrain-in-Constrains g c =
       is_true = c.requires.is_true;
       refusal = tt;
       added = let Adds : ClauseKind g.row.D-NameId.Denot g.row.D-SolvableId.Denot → Type 0 =
-              λ k. AddsRules (StatesRule (g.D.Interner.universe c.args.provider.now) c.args.sources.now k) c.args.listing.now c.constrain.new.self in
+          λ k. AddsRules (StatesRule (g.D.Interner.universe c.args.provider.now) c.args.sources.now k) c.args.listing.now c.constrain.new.self in
           subst Adds (sym c.in-Constrains.is) c.in_ok-constrain-in-Constrains.ensures.added;
     }
 
@@ -89,16 +89,16 @@ pub returns-in_ok-constrain_each-in-ConstrainsParent : goal.returns-in_ok-constr
 returns-in_ok-constrain_each-in-ConstrainsParent g c =
     record {
       added = let u = g.D.Interner.universe c.args.provider.now in
-    let by = c.in-ConstrainsParent.parent in
-    let v = c.in-ConstrainsParent.version_set in
-    let Adds : ClauseKind g.row.D-NameId.Denot g.row.D-SolvableId.Denot → Type 0 =
-    λ k. AddsRules (StatesRule u c.args.sources.now k) c.args.listing.now c.constrain_each.new.listing in
-    let named = IsNamed c.args.sources.now.helpers v in
-    subst Adds (sym c.in-ConstrainsParent.is) (added_same c.args.listing.now c.constrain_each.new.listing
-    (SomeOf c.excluded.result.now (λ s st. st ≡ constrains by v s)) _
-    (λ st h. (h.0, All-contains named c.excluded.result.now h.0 c.excluded.ensures.each h.1, h.2))
-    (λ st h. (h.0, c.excluded.ensures.every c.requires.groups h.0 h.1, h.2))
-    c.in_ok-constrain_each-in-ConstrainsParent.ensures.added);
+          let by = c.in-ConstrainsParent.parent in
+          let v = c.in-ConstrainsParent.version_set in
+          let Adds : ClauseKind g.row.D-NameId.Denot g.row.D-SolvableId.Denot → Type 0 =
+          λ k. AddsRules (StatesRule u c.args.sources.now k) c.args.listing.now c.constrain_each.new.listing in
+          let named = IsNamed c.args.sources.now.helpers v in
+          subst Adds (sym c.in-ConstrainsParent.is) (added_same c.args.listing.now c.constrain_each.new.listing
+          (SomeOf c.excluded.result.now (λ s st. st ≡ constrains by v s)) _
+          (λ st h. (h.0, All-contains named c.excluded.result.now h.0 c.excluded.ensures.each h.1, h.2))
+          (λ st h. (h.0, c.excluded.ensures.every c.requires.groups h.0 h.1, h.2))
+          c.in_ok-constrain_each-in-ConstrainsParent.ensures.added);
       is_true = c.requires.is_true;
       refusal = tt;
     }
@@ -117,7 +117,7 @@ returns-in_ok-lock-in-Lock g c =
       is_true = c.requires.is_true;
       refusal = tt;
       added = let Adds : ClauseKind g.row.D-NameId.Denot g.row.D-SolvableId.Denot → Type 0 =
-              λ k. AddsRules (StatesRule (g.D.Interner.universe c.args.provider.now) c.args.sources.now k) c.args.listing.now c.lock.new.self in
+          λ k. AddsRules (StatesRule (g.D.Interner.universe c.args.provider.now) c.args.sources.now k) c.args.listing.now c.lock.new.self in
           subst Adds (sym c.in-Lock.is) c.in_ok-lock-in-Lock.ensures.added;
     }
 
@@ -135,6 +135,6 @@ returns-in_ok-exclude-in-Excluded g c =
       is_true = c.requires.is_true;
       refusal = tt;
       added = let Adds : ClauseKind g.row.D-NameId.Denot g.row.D-SolvableId.Denot → Type 0 =
-              λ k. AddsRules (StatesRule (g.D.Interner.universe c.args.provider.now) c.args.sources.now k) c.args.listing.now c.exclude.new.self in
+          λ k. AddsRules (StatesRule (g.D.Interner.universe c.args.provider.now) c.args.sources.now k) c.args.listing.now c.exclude.new.self in
           subst Adds (sym c.in-Excluded.is) c.in_ok-exclude-in-Excluded.ensures.added;
     }

@@ -20,7 +20,7 @@ use Rattle.resolver_encoding.proofs.LedLemmas.{AddsOnly-equal}
 use Rattle.resolver_encoding.proofs.encoding.Encoding.help.Goals as goal
 
 pub append-requires-clause-absent : goal.append-requires-clause-absent
-append-requires-clause-absent g c =     let Has : List VersionSetId → Type 0 = λ list. Contains list c.args.version_set in
+append-requires-clause-absent g c = let Has : List VersionSetId → Type 0 = λ list. Contains list c.args.version_set in
     λ h. c.if-is_among.ensures (subst Has c.in_ok-imply_each.ensures.helped h)
 
 pub returns-then-is_among : goal.returns-then-is_among
@@ -71,15 +71,15 @@ pub returns : goal.returns
 returns g c =
     record {
       step = let u = g.D.Interner.universe c.args.provider.now in
-    let v = c.args.version_set in
-    let mid = notes_in c.imply_each.new.self in
-    let answer = c.matching.ensures u c.fetch_matching.ensures.is_true in
-    let AllFollow : List g.row.S.Denot → Type 0 = λ list. All (λ s. Contains mid.kinds (AnyOf (ConditionHelper v) s)) list in
-    IsStep-trans u idle (λ root. ⊤) _ _ _ c.in_ok-imply_each.ensures.step
-    (IsStep-helped u mid _ v (λ i. record mid { helped = c.in_ok-append.ensures.keys i }) (λ s h.
-    All-contains (λ t. Contains mid.kinds (AnyOf (ConditionHelper v) t)) (matching u v) s (subst AllFollow answer c.in_ok-imply_each.ensures.follow) h));
+          let v = c.args.version_set in
+          let mid = notes_in c.imply_each.new.self in
+          let answer = c.matching.ensures u c.fetch_matching.ensures.is_true in
+          let AllFollow : List g.row.S.Denot → Type 0 = λ list. All (λ s. Contains mid.kinds (AnyOf (ConditionHelper v) s)) list in
+          IsStep-trans u idle (λ root. ⊤) _ _ _ c.in_ok-imply_each.ensures.step
+          (IsStep-helped u mid _ v (λ i. record mid { helped = c.in_ok-append.ensures.keys i }) (λ s h.
+          All-contains (λ t. Contains mid.kinds (AnyOf (ConditionHelper v) t)) (matching u v) s (subst AllFollow answer c.in_ok-imply_each.ensures.follow) h));
       helped = let Has : List VersionSetId → Type 0 = λ list. Contains list c.args.version_set in
-    subst Has (sym c.in_ok-append.ensures.keys) (Contains-push c.imply_each.new.self.helped.keys c.args.version_set);
+          subst Has (sym c.in_ok-append.ensures.keys) (Contains-push c.imply_each.new.self.helped.keys c.args.version_set);
       adds = AddsOnly-same_as _ (notes_in c.args.self.now) (notes_in c.imply_each.new.self) _ c.imply_each.ensures.adds refl refl;
       room = (let it = c.imply_each.ensures.room in record { bounded = it.bounded; variables = it.variables; clauses = it.clauses });
       is_true = c.fetch_matching.ensures.is_true;

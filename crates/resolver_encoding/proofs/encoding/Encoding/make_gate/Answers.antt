@@ -32,7 +32,7 @@ pub returns-in_err-add_with : goal.returns-in_err-add_with
 returns-in_err-add_with g c =
     record {
       adds = let u = g.D.Interner.universe c.args.provider.now in
-    AddsOnly-weaker _ _ (gate_mentions u c.args.requirement) _ _ (c.add_with.ensures.adds u c.requires.candidates);
+          AddsOnly-weaker _ _ (gate_mentions u c.args.requirement) _ _ (c.add_with.ensures.adds u c.requires.candidates);
       room = c.add_with.ensures.room;
       step = IfOk-from_err c.from_residual.result _ c.from_residual.ensures.0;
       gate = IfOk-from_err c.from_residual.result _ c.from_residual.ensures.0;
@@ -43,8 +43,8 @@ pub returns-in_err-append : goal.returns-in_err-append
 returns-in_err-append g c =
     record {
       adds = let u = g.D.Interner.universe c.args.provider.now in
-    AddsOnly-same_as _ (notes_in c.args.self.now) (notes_in c.add_with.new.self) _
-    (AddsOnly-weaker _ _ (gate_mentions u c.args.requirement) _ _ (c.add_with.ensures.adds u c.requires.candidates)) refl refl;
+          AddsOnly-same_as _ (notes_in c.args.self.now) (notes_in c.add_with.new.self) _
+          (AddsOnly-weaker _ _ (gate_mentions u c.args.requirement) _ _ (c.add_with.ensures.adds u c.requires.candidates)) refl refl;
       room = (let it = c.add_with.ensures.room in record { bounded = it.bounded; variables = it.variables; clauses = it.clauses });
       step = IfOk-from_err c.from_residual-in_err-append.result _ c.from_residual-in_err-append.ensures.0;
       gate = IfOk-from_err c.from_residual-in_err-append.result _ c.from_residual-in_err-append.ensures.0;
@@ -55,22 +55,22 @@ pub returns : goal.returns
 returns g c =
     record {
       step = let u = g.D.Interner.universe c.args.provider.now in
-    let r = c.args.requirement in
-    let old = notes_in c.args.self.now in
-    let mid = notes_in c.add_with.new.self in
-    let adds = c.in_ok-add_with.ensures.added u c.requires.candidates in
-    IsStep-trans u idle (λ root. ⊤) _ _ _
-    (IsStep-kind u idle (λ root. ⊤) old mid (GateRequires r) adds (λ root _ before codes _. tt) tt tt (record {
-      packages = λ v h. All-contains (λ w. Contains old.asked (u.version_set_name w)) (version_sets u r) v c.requires.asked h;
-      candidates = λ s h. let Has : List g.row.S.Denot → Type 0 = λ list. Contains list s in
-          All-contains (Contains old.seen) c.args.choices.now.candidates.items s c.requires.seen (subst Has (sym c.requires.candidates) h);
-    }))
-    (IsStep-gated u mid _ r (λ i. record mid { gates = c.in_ok-append.ensures.keys i }) (clause_listed u old mid (GateRequires r) adds));
+          let r = c.args.requirement in
+          let old = notes_in c.args.self.now in
+          let mid = notes_in c.add_with.new.self in
+          let adds = c.in_ok-add_with.ensures.added u c.requires.candidates in
+          IsStep-trans u idle (λ root. ⊤) _ _ _
+          (IsStep-kind u idle (λ root. ⊤) old mid (GateRequires r) adds (λ root _ before codes _. tt) tt tt (record {
+            packages = λ v h. All-contains (λ w. Contains old.asked (u.version_set_name w)) (version_sets u r) v c.requires.asked h;
+            candidates = λ s h. let Has : List g.row.S.Denot → Type 0 = λ list. Contains list s in
+                All-contains (Contains old.seen) c.args.choices.now.candidates.items s c.requires.seen (subst Has (sym c.requires.candidates) h);
+          }))
+          (IsStep-gated u mid _ r (λ i. record mid { gates = c.in_ok-append.ensures.keys i }) (clause_listed u old mid (GateRequires r) adds));
       gate = let Has : List Requirement → Type 0 = λ list. Contains list c.args.requirement in
-    subst Has (sym c.in_ok-append.ensures.keys) (Contains-push c.add_with.new.self.gates.keys c.args.requirement);
+          subst Has (sym c.in_ok-append.ensures.keys) (Contains-push c.add_with.new.self.gates.keys c.args.requirement);
       adds = let u = g.D.Interner.universe c.args.provider.now in
-    AddsOnly-same_as _ (notes_in c.args.self.now) (notes_in c.add_with.new.self) _
-    (AddsOnly-weaker _ _ (gate_mentions u c.args.requirement) _ _ (c.add_with.ensures.adds u c.requires.candidates)) refl refl;
+          AddsOnly-same_as _ (notes_in c.args.self.now) (notes_in c.add_with.new.self) _
+          (AddsOnly-weaker _ _ (gate_mentions u c.args.requirement) _ _ (c.add_with.ensures.adds u c.requires.candidates)) refl refl;
       room = (let it = c.add_with.ensures.room in record { bounded = it.bounded; variables = it.variables; clauses = it.clauses });
       refusal = tt;
     }

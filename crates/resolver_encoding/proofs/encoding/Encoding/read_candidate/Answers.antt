@@ -20,13 +20,13 @@ returns-then-is_out_of_reach g c =
     record {
       reading = IsReadingOf-same (g.D.Interner.universe c.args.provider.now) c.args.chosen.now.keys (λ s. c.args.candidate ≡ s) (notes_in c.args.self.now);
       here = λ covered.
-    absurd (unhinted (g.D.Interner.universe c.args.provider.now) c.args.hintless c.solvable_name-name.result c.args.candidate
-    (c.is_out_of_reach.ensures c.if-is_out_of_reach.true) c.requires.hintless c.solvable_name-name.ensures covered);
+          absurd (unhinted (g.D.Interner.universe c.args.provider.now) c.args.hintless c.solvable_name-name.result c.args.candidate
+          (c.is_out_of_reach.ensures c.if-is_out_of_reach.true) c.requires.hintless c.solvable_name-name.ensures covered);
       more = inl refl;
       brings = let u = g.D.Interner.universe c.args.provider.now in
-    let needed = demands_of (u.needs c.args.candidate) in
-    let Own : Origin g.row.N.Denot g.row.S.Denot → Type 0 = IsOwn u (BySolvable c.args.candidate) needed in
-    Brings-same u (IsDemanded u c.args.chosen.now.keys needed) Own (notes_in c.args.self.now);
+          let needed = demands_of (u.needs c.args.candidate) in
+          let Own : Origin g.row.N.Denot g.row.S.Denot → Type 0 = IsOwn u (BySolvable c.args.candidate) needed in
+          Brings-same u (IsDemanded u c.args.chosen.now.keys needed) Own (notes_in c.args.self.now);
       room = KeepsRoom-same _ c.requires.bounded;
       is_true = c.requires.is_true;
       hintless = c.requires.hintless;
@@ -40,9 +40,9 @@ returns-then-is_among g c =
       here = λ covered. c.if-is_among.ensures;
       more = inl refl;
       brings = let u = g.D.Interner.universe c.args.provider.now in
-    let needed = demands_of (u.needs c.args.candidate) in
-    let Own : Origin g.row.N.Denot g.row.S.Denot → Type 0 = IsOwn u (BySolvable c.args.candidate) needed in
-    Brings-same u (IsDemanded u c.args.chosen.now.keys needed) Own (notes_in c.args.self.now);
+          let needed = demands_of (u.needs c.args.candidate) in
+          let Own : Origin g.row.N.Denot g.row.S.Denot → Type 0 = IsOwn u (BySolvable c.args.candidate) needed in
+          Brings-same u (IsDemanded u c.args.chosen.now.keys needed) Own (notes_in c.args.self.now);
       room = KeepsRoom-same _ c.requires.bounded;
       is_true = c.requires.is_true;
       hintless = c.requires.hintless;
@@ -53,9 +53,9 @@ pub returns-in_err-fetch_candidates : goal.returns-in_err-fetch_candidates
 returns-in_err-fetch_candidates g c =
     record {
       brings = let u = g.D.Interner.universe c.args.provider.now in
-    let needed = demands_of (u.needs c.args.candidate) in
-    let Own : Origin g.row.N.Denot g.row.S.Denot → Type 0 = IsOwn u (BySolvable c.args.candidate) needed in
-    Brings-same u (IsDemanded u c.args.chosen.now.keys needed) Own (notes_in c.args.self.now);
+          let needed = demands_of (u.needs c.args.candidate) in
+          let Own : Origin g.row.N.Denot g.row.S.Denot → Type 0 = IsOwn u (BySolvable c.args.candidate) needed in
+          Brings-same u (IsDemanded u c.args.chosen.now.keys needed) Own (notes_in c.args.self.now);
       room = KeepsRoom-same _ c.requires.bounded;
       is_true = c.fetch_candidates.ensures.is_true;
       reading = IfOk-from_err c.from_residual.result _ c.from_residual.ensures.0;
@@ -70,13 +70,13 @@ returns-then-is_out_of_reach-2 g c =
     record {
       reading = IsReadingOf-same (g.D.Interner.universe c.args.provider.now) c.args.chosen.now.keys (λ s. c.args.candidate ≡ s) (notes_in c.args.self.now);
       here = λ covered.
-    absurd (unhinted (g.D.Interner.universe c.args.provider.now) c.without_hints-next.result c.solvable_name-name.result c.args.candidate
-    (c.is_out_of_reach-2.ensures c.if-is_out_of_reach-2.true) (c.without_hints-next.ensures (g.D.Interner.universe c.args.provider.now) c.fetch_candidates.ensures.is_true) c.solvable_name-name.ensures covered);
+          absurd (unhinted (g.D.Interner.universe c.args.provider.now) c.without_hints-next.result c.solvable_name-name.result c.args.candidate
+          (c.is_out_of_reach-2.ensures c.if-is_out_of_reach-2.true) (c.without_hints-next.ensures (g.D.Interner.universe c.args.provider.now) c.fetch_candidates.ensures.is_true) c.solvable_name-name.ensures covered);
       more = inl refl;
       brings = let u = g.D.Interner.universe c.args.provider.now in
-    let needed = demands_of (u.needs c.args.candidate) in
-    let Own : Origin g.row.N.Denot g.row.S.Denot → Type 0 = IsOwn u (BySolvable c.args.candidate) needed in
-    Brings-same u (IsDemanded u c.args.chosen.now.keys needed) Own (notes_in c.args.self.now);
+          let needed = demands_of (u.needs c.args.candidate) in
+          let Own : Origin g.row.N.Denot g.row.S.Denot → Type 0 = IsOwn u (BySolvable c.args.candidate) needed in
+          Brings-same u (IsDemanded u c.args.chosen.now.keys needed) Own (notes_in c.args.self.now);
       room = KeepsRoom-same _ c.requires.bounded;
       is_true = c.fetch_candidates.ensures.is_true;
       hintless = c.without_hints-next.ensures (g.D.Interner.universe c.args.provider.now) c.fetch_candidates.ensures.is_true;
@@ -100,8 +100,8 @@ pub returns : goal.returns
 returns g c =
     record {
       here = λ covered.
-    let Has : g.row.N.Denot → Type 0 = λ n. HasCandidates c.fetch_candidates.new.self n in
-    c.in_ok-read_if_at_hand.ensures.here (hinted (subst Has c.solvable_name-name.ensures c.in_ok-fetch_candidates.ensures.has) covered);
+          let Has : g.row.N.Denot → Type 0 = λ n. HasCandidates c.fetch_candidates.new.self n in
+          c.in_ok-read_if_at_hand.ensures.here (hinted (subst Has c.solvable_name-name.ensures c.in_ok-fetch_candidates.ensures.has) covered);
       brings = c.read_if_at_hand.ensures.brings;
       hintless = c.without_hints-next.ensures (g.D.Interner.universe c.args.provider.now) c.fetch_candidates.ensures.is_true;
       room = c.read_if_at_hand.ensures.room;

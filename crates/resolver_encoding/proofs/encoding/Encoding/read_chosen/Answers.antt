@@ -18,12 +18,12 @@ pub read_each-requires-clause-half : goal.read_each-requires-clause-half
 read_each-requires-clause-half g c = let reading = c.requires.reading in record { root = reading.root; half = reading.so_far.half }
 
 pub fire_deferred-requires-clause-encoding : goal.fire_deferred-requires-clause-encoding
-fire_deferred-requires-clause-encoding g c =     let reading = c.requires.reading in
+fire_deferred-requires-clause-encoding g c = let reading = c.requires.reading in
     let half = c.in_ok-read.ensures.reading.keeps reading.root reading.so_far.half in
     record { root = reading.root; premise = tt; encoding = half.encoding }
 
 pub read_hinted-requires-clause-half : goal.read_hinted-requires-clause-half
-read_hinted-requires-clause-half g c =     let u = g.D.Interner.universe c.args.provider.now in
+read_hinted-requires-clause-half g c = let u = g.D.Interner.universe c.args.provider.now in
     let set = c.args.chosen.now.keys in
     let mid = notes_in c.read_each.new.self in
     let fired = notes_in c.fire_deferred.new.self in
@@ -33,7 +33,7 @@ read_hinted-requires-clause-half g c =     let u = g.D.Interner.universe c.args.
     record { root = before.root; half = firing_half u set mid fired firing before.root (reading.keeps before.root before.so_far.half) }
 
 pub read_hinted-requires-clause-within : goal.read_hinted-requires-clause-within
-read_hinted-requires-clause-within g c =     let old = notes_in c.args.self.now in
+read_hinted-requires-clause-within g c = let old = notes_in c.args.self.now in
     let mid = notes_in c.read_each.new.self in
     let fired = notes_in c.fire_deferred.new.self in
     let first : length old.requirements ≤ length mid.requirements = longer old.requirements mid.requirements c.in_ok-read.ensures.reading.requirements in
@@ -45,12 +45,12 @@ pub returns-in_err-read : goal.returns-in_err-read
 returns-in_err-read g c =
     record {
       led = λ root seeds packages so near all led.
-    let u = g.D.Interner.universe c.args.provider.now in
-    let set = c.args.chosen.now.keys in
-    let old = notes_in c.args.self.now in
-    let mid = notes_in c.read_each.new.self in
-    let first = c.read_each.ensures.led.led root seeds packages near all led in
-    first;
+          let u = g.D.Interner.universe c.args.provider.now in
+          let set = c.args.chosen.now.keys in
+          let old = notes_in c.args.self.now in
+          let mid = notes_in c.read_each.new.self in
+          let first = c.read_each.ensures.led.led root seeds packages near all led in
+          first;
       bounded = c.read_each.ensures.room.bounded;
       is_true = c.read_each.ensures.is_true;
       read = IfOk-from_err c.from_residual.result _ c.from_residual.ensures.0;
@@ -68,17 +68,17 @@ pub returns-in_err-fired : goal.returns-in_err-fired
 returns-in_err-fired g c =
     record {
       led = λ root seeds packages so near all led.
-    let u = g.D.Interner.universe c.args.provider.now in
-    let set = c.args.chosen.now.keys in
-    let old = notes_in c.args.self.now in
-    let mid = notes_in c.read_each.new.self in
-    let first = c.read_each.ensures.led.led root seeds packages near all led in
-    let fired = notes_in c.fire_deferred.new.self in
-    let reading = c.in_ok-read.ensures.reading in
-    let half = reading.keeps root so.half in
-    let mid_near = near_read u root seeds packages set (Contains set) old mid reading near all (λ s h. All-contains (IsNear u root seeds) set s all h) in
-    let second = led_fired u root seeds packages set mid fired half mid_near all c.fire_deferred.ensures.brings first in
-    second;
+          let u = g.D.Interner.universe c.args.provider.now in
+          let set = c.args.chosen.now.keys in
+          let old = notes_in c.args.self.now in
+          let mid = notes_in c.read_each.new.self in
+          let first = c.read_each.ensures.led.led root seeds packages near all led in
+          let fired = notes_in c.fire_deferred.new.self in
+          let reading = c.in_ok-read.ensures.reading in
+          let half = reading.keeps root so.half in
+          let mid_near = near_read u root seeds packages set (Contains set) old mid reading near all (λ s h. All-contains (IsNear u root seeds) set s all h) in
+          let second = led_fired u root seeds packages set mid fired half mid_near all c.fire_deferred.ensures.brings first in
+          second;
       bounded = c.fire_deferred.ensures.room.bounded;
       is_true = c.fire_deferred.ensures.is_true;
       read = IfOk-from_err c.from_residual-in_err-fired.result _ c.from_residual-in_err-fired.ensures.0;
@@ -96,18 +96,18 @@ pub returns-in_err-hinted : goal.returns-in_err-hinted
 returns-in_err-hinted g c =
     record {
       led = λ root seeds packages so near all led.
-    let u = g.D.Interner.universe c.args.provider.now in
-    let set = c.args.chosen.now.keys in
-    let old = notes_in c.args.self.now in
-    let mid = notes_in c.read_each.new.self in
-    let first = c.read_each.ensures.led.led root seeds packages near all led in
-    let fired = notes_in c.fire_deferred.new.self in
-    let reading = c.in_ok-read.ensures.reading in
-    let half = reading.keeps root so.half in
-    let mid_near = near_read u root seeds packages set (Contains set) old mid reading near all (λ s h. All-contains (IsNear u root seeds) set s all h) in
-    let second = led_fired u root seeds packages set mid fired half mid_near all c.fire_deferred.ensures.brings first in
-    let fired_near = near_after u root seeds packages set old mid fired reading c.in_ok-fired.ensures.firing so.half near all in
-    c.read_hinted.ensures.led.led root seeds packages fired_near all second;
+          let u = g.D.Interner.universe c.args.provider.now in
+          let set = c.args.chosen.now.keys in
+          let old = notes_in c.args.self.now in
+          let mid = notes_in c.read_each.new.self in
+          let first = c.read_each.ensures.led.led root seeds packages near all led in
+          let fired = notes_in c.fire_deferred.new.self in
+          let reading = c.in_ok-read.ensures.reading in
+          let half = reading.keeps root so.half in
+          let mid_near = near_read u root seeds packages set (Contains set) old mid reading near all (λ s h. All-contains (IsNear u root seeds) set s all h) in
+          let second = led_fired u root seeds packages set mid fired half mid_near all c.fire_deferred.ensures.brings first in
+          let fired_near = near_after u root seeds packages set old mid fired reading c.in_ok-fired.ensures.firing so.half near all in
+          c.read_hinted.ensures.led.led root seeds packages fired_near all second;
       bounded = c.read_hinted.ensures.room.bounded;
       is_true = c.read_hinted.ensures.is_true;
       read = IfOk-from_err c.from_residual-in_err-hinted.result _ c.from_residual-in_err-hinted.ensures.0;
@@ -125,91 +125,91 @@ pub returns : goal.returns
 returns g c =
     record {
       read = λ root so.
-    let u = g.D.Interner.universe c.args.provider.now in
-    let set = c.args.chosen.now.keys in
-    let old = notes_in c.args.self.now in
-    let mid = notes_in c.read_each.new.self in
-    let fired = notes_in c.fire_deferred.new.self in
-    let new = notes_in c.read_hinted.new.self in
-    let reading = c.in_ok-read.ensures.reading in
-    let firing = c.in_ok-fired.ensures.firing in
-    let From : ℕ → Type 0 = λ n. IsHintedReading u set n fired new in
-    let hinted = subst From c.requirement_count-clauses.ensures c.in_ok-hinted.ensures.reading in
-    let half = reading.keeps root so.half in
-    so_far_on u set root (IsListedFrom new (length old.requirements)) fired new
-    (so_far u set old mid fired reading firing root c.args.from so c.in_ok-read.ensures.here (c.in_ok-fired.ensures.quiet half.encoding.sound_deferred_by_name)
-    (lawful_solvables u g.S.PartialEq.eq (g.met.D.Interner.lawful_ids c.args.provider.now)
-    (g.met.D.Interner.solvables_compare c.args.provider.now) g.met.D.Interner.solvables_are_values)
-    (g.met.D.DependencyProvider.lawful_packages c.args.provider.now))
-    hinted.reading;
+          let u = g.D.Interner.universe c.args.provider.now in
+          let set = c.args.chosen.now.keys in
+          let old = notes_in c.args.self.now in
+          let mid = notes_in c.read_each.new.self in
+          let fired = notes_in c.fire_deferred.new.self in
+          let new = notes_in c.read_hinted.new.self in
+          let reading = c.in_ok-read.ensures.reading in
+          let firing = c.in_ok-fired.ensures.firing in
+          let From : ℕ → Type 0 = λ n. IsHintedReading u set n fired new in
+          let hinted = subst From c.requirement_count-clauses.ensures c.in_ok-hinted.ensures.reading in
+          let half = reading.keeps root so.half in
+          so_far_on u set root (IsListedFrom new (length old.requirements)) fired new
+          (so_far u set old mid fired reading firing root c.args.from so c.in_ok-read.ensures.here (c.in_ok-fired.ensures.quiet half.encoding.sound_deferred_by_name)
+          (lawful_solvables u g.S.PartialEq.eq (g.met.D.Interner.lawful_ids c.args.provider.now)
+          (g.met.D.Interner.solvables_compare c.args.provider.now) g.met.D.Interner.solvables_are_values)
+          (g.met.D.DependencyProvider.lawful_packages c.args.provider.now))
+          hinted.reading;
       asked = λ root so.
-    let u = g.D.Interner.universe c.args.provider.now in
-    let set = c.args.chosen.now.keys in
-    let old = notes_in c.args.self.now in
-    let mid = notes_in c.read_each.new.self in
-    let fired = notes_in c.fire_deferred.new.self in
-    let new = notes_in c.read_hinted.new.self in
-    let reading = c.in_ok-read.ensures.reading in
-    let firing = c.in_ok-fired.ensures.firing in
-    let From : ℕ → Type 0 = λ n. IsHintedReading u set n fired new in
-    let hinted = subst From c.requirement_count-clauses.ensures c.in_ok-hinted.ensures.reading in
-    let half = reading.keeps root so.half in
-    let quiet = c.in_ok-fired.ensures.quiet half.encoding.sound_deferred_by_name in
-    let lawful = lawful_solvables u g.S.PartialEq.eq (g.met.D.Interner.lawful_ids c.args.provider.now)
-    (g.met.D.Interner.solvables_compare c.args.provider.now) g.met.D.Interner.solvables_are_values in
-    let packages = g.met.D.DependencyProvider.lawful_packages c.args.provider.now in
-    let here = c.in_ok-read.ensures.here in
-    asked_on u set root (IsListedFrom new (length old.requirements)) old.asked fired new
-    (so_far u set old mid fired reading firing root c.args.from so here quiet lawful packages)
-    hinted.reading
-    (all_asked u set old mid fired reading firing root c.args.from so here quiet lawful packages);
+          let u = g.D.Interner.universe c.args.provider.now in
+          let set = c.args.chosen.now.keys in
+          let old = notes_in c.args.self.now in
+          let mid = notes_in c.read_each.new.self in
+          let fired = notes_in c.fire_deferred.new.self in
+          let new = notes_in c.read_hinted.new.self in
+          let reading = c.in_ok-read.ensures.reading in
+          let firing = c.in_ok-fired.ensures.firing in
+          let From : ℕ → Type 0 = λ n. IsHintedReading u set n fired new in
+          let hinted = subst From c.requirement_count-clauses.ensures c.in_ok-hinted.ensures.reading in
+          let half = reading.keeps root so.half in
+          let quiet = c.in_ok-fired.ensures.quiet half.encoding.sound_deferred_by_name in
+          let lawful = lawful_solvables u g.S.PartialEq.eq (g.met.D.Interner.lawful_ids c.args.provider.now)
+          (g.met.D.Interner.solvables_compare c.args.provider.now) g.met.D.Interner.solvables_are_values in
+          let packages = g.met.D.DependencyProvider.lawful_packages c.args.provider.now in
+          let here = c.in_ok-read.ensures.here in
+          asked_on u set root (IsListedFrom new (length old.requirements)) old.asked fired new
+          (so_far u set old mid fired reading firing root c.args.from so here quiet lawful packages)
+          hinted.reading
+          (all_asked u set old mid fired reading firing root c.args.from so here quiet lawful packages);
       near = λ root seeds packages so near all.
-    c.in_ok-hinted.ensures.reading.near root seeds packages
-    (near_after (g.D.Interner.universe c.args.provider.now) root seeds packages c.args.chosen.now.keys (notes_in c.args.self.now)
-    (notes_in c.read_each.new.self) (notes_in c.fire_deferred.new.self) c.in_ok-read.ensures.reading c.in_ok-fired.ensures.firing so.half near all)
-    all;
+          c.in_ok-hinted.ensures.reading.near root seeds packages
+          (near_after (g.D.Interner.universe c.args.provider.now) root seeds packages c.args.chosen.now.keys (notes_in c.args.self.now)
+          (notes_in c.read_each.new.self) (notes_in c.fire_deferred.new.self) c.in_ok-read.ensures.reading c.in_ok-fired.ensures.firing so.half near all)
+          all;
       hinted = let u = g.D.Interner.universe c.args.provider.now in
-    let From : ℕ → Type 0 = λ n. AreHintsRead u n (notes_in c.read_hinted.new.self) in
-    subst From c.requirement_count-clauses.ensures c.in_ok-hinted.ensures.here;
+          let From : ℕ → Type 0 = λ n. AreHintsRead u n (notes_in c.read_hinted.new.self) in
+          subst From c.requirement_count-clauses.ensures c.in_ok-hinted.ensures.here;
       more = let u = g.D.Interner.universe c.args.provider.now in
-    let set = c.args.chosen.now.keys in
-    let old = notes_in c.args.self.now in
-    let mid = notes_in c.read_each.new.self in
-    let fired = notes_in c.fire_deferred.new.self in
-    let new = notes_in c.read_hinted.new.self in
-    let reading = c.in_ok-read.ensures.reading in
-    let firing = c.in_ok-fired.ensures.firing in
-    let From : ℕ → Type 0 = λ n. IsHintedReading u set n fired new in
-    let hinted = subst From c.requirement_count-clauses.ensures c.in_ok-hinted.ensures.reading in
-    let before = c.requires.reading in
-    let half = firing_half u set mid fired firing before.root (reading.keeps before.root before.so_far.half) in
-    more_on u set before.root old fired new half.encoding (read_more u set old mid fired reading firing) hinted.reading;
+          let set = c.args.chosen.now.keys in
+          let old = notes_in c.args.self.now in
+          let mid = notes_in c.read_each.new.self in
+          let fired = notes_in c.fire_deferred.new.self in
+          let new = notes_in c.read_hinted.new.self in
+          let reading = c.in_ok-read.ensures.reading in
+          let firing = c.in_ok-fired.ensures.firing in
+          let From : ℕ → Type 0 = λ n. IsHintedReading u set n fired new in
+          let hinted = subst From c.requirement_count-clauses.ensures c.in_ok-hinted.ensures.reading in
+          let before = c.requires.reading in
+          let half = firing_half u set mid fired firing before.root (reading.keeps before.root before.so_far.half) in
+          more_on u set before.root old fired new half.encoding (read_more u set old mid fired reading firing) hinted.reading;
       progress = let u = g.D.Interner.universe c.args.provider.now in
-    let set = c.args.chosen.now.keys in
-    let old = notes_in c.args.self.now in
-    let mid = notes_in c.read_each.new.self in
-    let fired = notes_in c.fire_deferred.new.self in
-    let new = notes_in c.read_hinted.new.self in
-    let reading = c.in_ok-read.ensures.reading in
-    let firing = c.in_ok-fired.ensures.firing in
-    let Made : Progress → Type 0 = λ p. IsProgress old new p in
-    subst Made (sym c.progress_of.ensures)
-    (progress_then old fired new c.in_ok-read.read c.in_ok-fired.fired c.in_ok-hinted.hinted
-    (progress u set old mid fired c.in_ok-read.read c.in_ok-fired.fired c.in_ok-read.ensures.any_new c.in_ok-fired.ensures.fired firing)
-    c.in_ok-hinted.ensures.any_new);
+          let set = c.args.chosen.now.keys in
+          let old = notes_in c.args.self.now in
+          let mid = notes_in c.read_each.new.self in
+          let fired = notes_in c.fire_deferred.new.self in
+          let new = notes_in c.read_hinted.new.self in
+          let reading = c.in_ok-read.ensures.reading in
+          let firing = c.in_ok-fired.ensures.firing in
+          let Made : Progress → Type 0 = λ p. IsProgress old new p in
+          subst Made (sym c.progress_of.ensures)
+          (progress_then old fired new c.in_ok-read.read c.in_ok-fired.fired c.in_ok-hinted.hinted
+          (progress u set old mid fired c.in_ok-read.read c.in_ok-fired.fired c.in_ok-read.ensures.any_new c.in_ok-fired.ensures.fired firing)
+          c.in_ok-hinted.ensures.any_new);
       led = λ root seeds packages so near all led.
-    let u = g.D.Interner.universe c.args.provider.now in
-    let set = c.args.chosen.now.keys in
-    let old = notes_in c.args.self.now in
-    let mid = notes_in c.read_each.new.self in
-    let first = c.read_each.ensures.led.led root seeds packages near all led in
-    let fired = notes_in c.fire_deferred.new.self in
-    let reading = c.in_ok-read.ensures.reading in
-    let half = reading.keeps root so.half in
-    let mid_near = near_read u root seeds packages set (Contains set) old mid reading near all (λ s h. All-contains (IsNear u root seeds) set s all h) in
-    let second = led_fired u root seeds packages set mid fired half mid_near all c.fire_deferred.ensures.brings first in
-    let fired_near = near_after u root seeds packages set old mid fired reading c.in_ok-fired.ensures.firing so.half near all in
-    c.read_hinted.ensures.led.led root seeds packages fired_near all second;
+          let u = g.D.Interner.universe c.args.provider.now in
+          let set = c.args.chosen.now.keys in
+          let old = notes_in c.args.self.now in
+          let mid = notes_in c.read_each.new.self in
+          let first = c.read_each.ensures.led.led root seeds packages near all led in
+          let fired = notes_in c.fire_deferred.new.self in
+          let reading = c.in_ok-read.ensures.reading in
+          let half = reading.keeps root so.half in
+          let mid_near = near_read u root seeds packages set (Contains set) old mid reading near all (λ s h. All-contains (IsNear u root seeds) set s all h) in
+          let second = led_fired u root seeds packages set mid fired half mid_near all c.fire_deferred.ensures.brings first in
+          let fired_near = near_after u root seeds packages set old mid fired reading c.in_ok-fired.ensures.firing so.half near all in
+          c.read_hinted.ensures.led.led root seeds packages fired_near all second;
       bounded = c.read_hinted.ensures.room.bounded;
       is_true = c.read_hinted.ensures.is_true;
       fit = c.in_ok-hinted.ensures.fit;

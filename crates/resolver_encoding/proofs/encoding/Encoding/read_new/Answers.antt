@@ -21,13 +21,13 @@ returns-then-is_among g c =
       reading = IsReadingOf-same (g.D.Interner.universe c.args.provider.now) c.args.chosen.now.keys (λ s. c.args.solvable ≡ s) (notes_in c.args.self.now);
       more = inl refl;
       brings = let u = g.D.Interner.universe c.args.provider.now in
-    let s = c.args.solvable in
-    let set = c.args.chosen.now.keys in
-    let old = notes_in c.args.self.now in
-    let needed = demands_of (u.needs s) in
-    let Called = IsDemanded u set needed in
-    let Own : Origin g.row.N.Denot g.row.S.Denot → Type 0 = IsOwn u (Solvable s) needed in
-    Brings-same u Called Own old;
+          let s = c.args.solvable in
+          let set = c.args.chosen.now.keys in
+          let old = notes_in c.args.self.now in
+          let needed = demands_of (u.needs s) in
+          let Called = IsDemanded u set needed in
+          let Own : Origin g.row.N.Denot g.row.S.Denot → Type 0 = IsOwn u (Solvable s) needed in
+          Brings-same u Called Own old;
       is_true = c.requires.is_true;
       here = c.if-is_among.ensures;
       room = KeepsRoom-same _ c.requires.bounded;
@@ -50,15 +50,15 @@ pub returns-in_err-append : goal.returns-in_err-append
 returns-in_err-append g c =
     record {
       brings = let u = g.D.Interner.universe c.args.provider.now in
-    let s = c.args.solvable in
-    let set = c.args.chosen.now.keys in
-    let old = notes_in c.args.self.now in
-    let needed = demands_of (u.needs s) in
-    let Called = IsDemanded u set needed in
-    let Own : Origin g.row.N.Denot g.row.S.Denot → Type 0 = IsOwn u (Solvable s) needed in
-    Brings-same_as u Called Own old (notes_in c.read_solvable.new.self) _ c.read_solvable.ensures.brings refl refl;
+          let s = c.args.solvable in
+          let set = c.args.chosen.now.keys in
+          let old = notes_in c.args.self.now in
+          let needed = demands_of (u.needs s) in
+          let Called = IsDemanded u set needed in
+          let Own : Origin g.row.N.Denot g.row.S.Denot → Type 0 = IsOwn u (Solvable s) needed in
+          Brings-same_as u Called Own old (notes_in c.read_solvable.new.self) _ c.read_solvable.ensures.brings refl refl;
       room = let it = c.read_solvable.ensures.room in
-    record { bounded = it.bounded; variables = it.variables; clauses = it.clauses };
+          record { bounded = it.bounded; variables = it.variables; clauses = it.clauses };
       is_true = c.read_solvable.ensures.is_true;
       reading = IfOk-from_err c.from_residual-in_err-append.result _ c.from_residual-in_err-append.ensures.0;
       here = IfOk-from_err c.from_residual-in_err-append.result _ c.from_residual-in_err-append.ensures.0;
@@ -70,26 +70,26 @@ pub returns : goal.returns
 returns g c =
     record {
       reading = let mid = notes_in c.read_solvable.new.self in
-    IsReadingOf-read (g.D.Interner.universe c.args.provider.now) c.args.chosen.now.keys c.args.solvable
-    (notes_in c.args.self.now) mid _ c.in_ok-read_solvable.ensures.step c.in_ok-read_solvable.ensures.read c.requires.known (λ i.
-    record mid { read = c.in_ok-append.ensures.keys i });
+          IsReadingOf-read (g.D.Interner.universe c.args.provider.now) c.args.chosen.now.keys c.args.solvable
+          (notes_in c.args.self.now) mid _ c.in_ok-read_solvable.ensures.step c.in_ok-read_solvable.ensures.read c.requires.known (λ i.
+          record mid { read = c.in_ok-append.ensures.keys i });
       more = let mid = notes_in c.read_solvable.new.self in
-    inr (HasRead-read (g.D.Interner.universe c.args.provider.now) c.args.chosen.now.keys c.args.solvable
-    (notes_in c.args.self.now) mid _ c.in_ok-read_solvable.ensures.step c.in_ok-read_solvable.ensures.read c.requires.known (λ i.
-    record mid { read = c.in_ok-append.ensures.keys i }));
+          inr (HasRead-read (g.D.Interner.universe c.args.provider.now) c.args.chosen.now.keys c.args.solvable
+          (notes_in c.args.self.now) mid _ c.in_ok-read_solvable.ensures.step c.in_ok-read_solvable.ensures.read c.requires.known (λ i.
+          record mid { read = c.in_ok-append.ensures.keys i }));
       brings = let u = g.D.Interner.universe c.args.provider.now in
-    let s = c.args.solvable in
-    let set = c.args.chosen.now.keys in
-    let old = notes_in c.args.self.now in
-    let needed = demands_of (u.needs s) in
-    let Called = IsDemanded u set needed in
-    let Own : Origin g.row.N.Denot g.row.S.Denot → Type 0 = IsOwn u (Solvable s) needed in
-    Brings-same_as u Called Own old (notes_in c.read_solvable.new.self) _ c.read_solvable.ensures.brings refl refl;
+          let s = c.args.solvable in
+          let set = c.args.chosen.now.keys in
+          let old = notes_in c.args.self.now in
+          let needed = demands_of (u.needs s) in
+          let Called = IsDemanded u set needed in
+          let Own : Origin g.row.N.Denot g.row.S.Denot → Type 0 = IsOwn u (Solvable s) needed in
+          Brings-same_as u Called Own old (notes_in c.read_solvable.new.self) _ c.read_solvable.ensures.brings refl refl;
       here = let Has : List g.row.S.Denot → Type 0 = λ list. Contains list c.args.solvable in
-    subst Has (sym c.in_ok-append.ensures.keys) (Contains-push c.read_solvable.new.self.read.keys c.args.solvable);
+          subst Has (sym c.in_ok-append.ensures.keys) (Contains-push c.read_solvable.new.self.read.keys c.args.solvable);
       is_true = c.read_solvable.ensures.is_true;
       room = let it = c.read_solvable.ensures.room in
-    record { bounded = it.bounded; variables = it.variables; clauses = it.clauses };
+          record { bounded = it.bounded; variables = it.variables; clauses = it.clauses };
       refusal = tt;
     }
 

@@ -10,7 +10,7 @@ pub returns-in_err-read_plain-in-Some : goal.returns-in_err-read_plain-in-Some
 returns-in_err-read_plain-in-Some g c =
     record {
       brings = plain_brings (g.D.Interner.universe c.args.provider.now) c.args.chosen.now.keys c.args.by c.in-Some.requirer c.args.requirement (notes_in c.args.self.now)
-    (notes_in c.read_plain.new.self) c.in-Some.ensures.0 c.in-Some.ensures.1 c.read_plain.ensures.brings;
+          (notes_in c.read_plain.new.self) c.in-Some.ensures.0 c.in-Some.ensures.1 c.read_plain.ensures.brings;
       room = c.read_plain.ensures.room;
       is_true = c.read_plain.ensures.is_true;
       step = IfOk-from_err c.from_residual.result _ c.from_residual.ensures.0;
@@ -22,13 +22,13 @@ pub returns-in_ok-read_plain-in-Some : goal.returns-in_ok-read_plain-in-Some
 returns-in_ok-read_plain-in-Some g c =
     record {
       step = plain_step (g.D.Interner.universe c.args.provider.now)
-    (IsUnmet (g.D.Interner.universe c.args.provider.now) c.args.chosen.now.keys c.args.by) c.args.chosen.now.keys c.args.by c.in-Some.requirer
-    c.args.requirement _ _ c.in-Some.ensures.0 c.in-Some.ensures.1 c.in_ok-read_plain-in-Some.ensures.step;
+          (IsUnmet (g.D.Interner.universe c.args.provider.now) c.args.chosen.now.keys c.args.by) c.args.chosen.now.keys c.args.by c.in-Some.requirer
+          c.args.requirement _ _ c.in-Some.ensures.0 c.in-Some.ensures.1 c.in_ok-read_plain-in-Some.ensures.step;
       read = let notes = notes_in c.read_plain.new.self in
-    plain_has (g.D.Interner.universe c.args.provider.now) notes.kinds
-    (IsLeft notes) c.args.by c.in-Some.requirer c.args.requirement c.in-Some.ensures.0 c.in_ok-read_plain-in-Some.ensures.read;
+          plain_has (g.D.Interner.universe c.args.provider.now) notes.kinds
+          (IsLeft notes) c.args.by c.in-Some.requirer c.args.requirement c.in-Some.ensures.0 c.in_ok-read_plain-in-Some.ensures.read;
       brings = plain_brings (g.D.Interner.universe c.args.provider.now) c.args.chosen.now.keys c.args.by c.in-Some.requirer c.args.requirement (notes_in c.args.self.now)
-    (notes_in c.read_plain.new.self) c.in-Some.ensures.0 c.in-Some.ensures.1 c.read_plain.ensures.brings;
+          (notes_in c.read_plain.new.self) c.in-Some.ensures.0 c.in-Some.ensures.1 c.read_plain.ensures.brings;
       room = c.read_plain.ensures.room;
       is_true = c.read_plain.ensures.is_true;
       refusal = tt;

@@ -25,7 +25,7 @@ demands_known d needs is =
     subst Says is refl
 
 pub read_demands-requires-clause-encoding : goal.read_demands-requires-clause-encoding
-read_demands-requires-clause-encoding g c =     let u = g.D.Interner.universe c.args.provider.now in
+read_demands-requires-clause-encoding g c = let u = g.D.Interner.universe c.args.provider.now in
     let answer = rw c.in-Known.is at (c.dependencies.ensures u c.fetch_dependencies.ensures.is_true) in
     let copied_requirements = c.deref-in-Known-2.ensures.value ∙ c.in_ok-requirements-in-Known.ensures.items ∙ c.deref.ensures.value in
     let copied_constraints = c.deref-in-Known-3.ensures.value ∙ c.in_ok-constraints-in-Known.ensures.items ∙ c.deref-in-Known.ensures.value in
@@ -45,13 +45,13 @@ pub returns-in_err-fetch_dependencies : goal.returns-in_err-fetch_dependencies
 returns-in_err-fetch_dependencies g c =
     record {
       brings = let u = g.D.Interner.universe c.args.provider.now in
-    let s = c.args.solvable in
-    let set = c.args.chosen.now.keys in
-    let old = notes_in c.args.self.now in
-    let needed = demands_of (u.needs s) in
-    let Called = IsDemanded u set needed in
-    let Own : Origin g.row.N.Denot g.row.S.Denot → Type 0 = IsOwn u (Solvable s) needed in
-    Brings-same u Called Own old;
+          let s = c.args.solvable in
+          let set = c.args.chosen.now.keys in
+          let old = notes_in c.args.self.now in
+          let needed = demands_of (u.needs s) in
+          let Called = IsDemanded u set needed in
+          let Own : Origin g.row.N.Denot g.row.S.Denot → Type 0 = IsOwn u (Solvable s) needed in
+          Brings-same u Called Own old;
       room = KeepsRoom-same _ c.requires.bounded;
       is_true = c.fetch_dependencies.ensures.is_true;
       step = IfOk-from_err c.from_residual.result _ c.from_residual.ensures.0;
@@ -63,13 +63,13 @@ pub returns-in_err-requirements-in-Known : goal.returns-in_err-requirements-in-K
 returns-in_err-requirements-in-Known g c =
     record {
       brings = let u = g.D.Interner.universe c.args.provider.now in
-    let s = c.args.solvable in
-    let set = c.args.chosen.now.keys in
-    let old = notes_in c.args.self.now in
-    let needed = demands_of (u.needs s) in
-    let Called = IsDemanded u set needed in
-    let Own : Origin g.row.N.Denot g.row.S.Denot → Type 0 = IsOwn u (Solvable s) needed in
-    Brings-same u Called Own old;
+          let s = c.args.solvable in
+          let set = c.args.chosen.now.keys in
+          let old = notes_in c.args.self.now in
+          let needed = demands_of (u.needs s) in
+          let Called = IsDemanded u set needed in
+          let Own : Origin g.row.N.Denot g.row.S.Denot → Type 0 = IsOwn u (Solvable s) needed in
+          Brings-same u Called Own old;
       room = KeepsRoom-same _ c.requires.bounded;
       is_true = c.fetch_dependencies.ensures.is_true;
       step = IfOk-from_err c.from_residual-in_err-requirements-in-Known.result _ c.from_residual-in_err-requirements-in-Known.ensures.0;
@@ -81,13 +81,13 @@ pub returns-in_err-constraints-in-Known : goal.returns-in_err-constraints-in-Kno
 returns-in_err-constraints-in-Known g c =
     record {
       brings = let u = g.D.Interner.universe c.args.provider.now in
-    let s = c.args.solvable in
-    let set = c.args.chosen.now.keys in
-    let old = notes_in c.args.self.now in
-    let needed = demands_of (u.needs s) in
-    let Called = IsDemanded u set needed in
-    let Own : Origin g.row.N.Denot g.row.S.Denot → Type 0 = IsOwn u (Solvable s) needed in
-    Brings-same u Called Own old;
+          let s = c.args.solvable in
+          let set = c.args.chosen.now.keys in
+          let old = notes_in c.args.self.now in
+          let needed = demands_of (u.needs s) in
+          let Called = IsDemanded u set needed in
+          let Own : Origin g.row.N.Denot g.row.S.Denot → Type 0 = IsOwn u (Solvable s) needed in
+          Brings-same u Called Own old;
       room = KeepsRoom-same _ c.requires.bounded;
       is_true = c.fetch_dependencies.ensures.is_true;
       step = IfOk-from_err c.from_residual-in_err-constraints-in-Known.result _ c.from_residual-in_err-constraints-in-Known.ensures.0;
@@ -99,13 +99,13 @@ pub returns-in_err-forbid_unknown-in-Unknown : goal.returns-in_err-forbid_unknow
 returns-in_err-forbid_unknown-in-Unknown g c =
     record {
       brings = let u = g.D.Interner.universe c.args.provider.now in
-    let s = c.args.solvable in
-    let set = c.args.chosen.now.keys in
-    let old = notes_in c.args.self.now in
-    let needed = demands_of (u.needs s) in
-    let Called = IsDemanded u set needed in
-    let Own : Origin g.row.N.Denot g.row.S.Denot → Type 0 = IsOwn u (Solvable s) needed in
-    own_brings u Called Own (λ o. o ≡ SolvableOrigin s) old (notes_in c.forbid_unknown.new.self) (λ o is. own_itself is) c.forbid_unknown.ensures.adds;
+          let s = c.args.solvable in
+          let set = c.args.chosen.now.keys in
+          let old = notes_in c.args.self.now in
+          let needed = demands_of (u.needs s) in
+          let Called = IsDemanded u set needed in
+          let Own : Origin g.row.N.Denot g.row.S.Denot → Type 0 = IsOwn u (Solvable s) needed in
+          own_brings u Called Own (λ o. o ≡ SolvableOrigin s) old (notes_in c.forbid_unknown.new.self) (λ o is. own_itself is) c.forbid_unknown.ensures.adds;
       room = c.forbid_unknown.ensures.room;
       is_true = c.fetch_dependencies.ensures.is_true;
       step = IfOk-from_err c.from_residual-in_err-forbid_unknown-in-Unknown.result _ c.from_residual-in_err-forbid_unknown-in-Unknown.ensures.0;
@@ -117,22 +117,22 @@ pub returns-in_err-read_demands-in-Known : goal.returns-in_err-read_demands-in-K
 returns-in_err-read_demands-in-Known g c =
     record {
       brings = let u = g.D.Interner.universe c.args.provider.now in
-    let s = c.args.solvable in
-    let set = c.args.chosen.now.keys in
-    let old = notes_in c.args.self.now in
-    let needed = demands_of (u.needs s) in
-    let Called = IsDemanded u set needed in
-    let Own : Origin g.row.N.Denot g.row.S.Denot → Type 0 = IsOwn u (Solvable s) needed in
-    let answer = rw c.in-Known.is at (c.dependencies.ensures u c.fetch_dependencies.ensures.is_true) in
-    let copied_requirements = c.deref-in-Known-2.ensures.value ∙ c.in_ok-requirements-in-Known.ensures.items ∙ c.deref.ensures.value in
-    let copied_constraints = c.deref-in-Known-3.ensures.value ∙ c.in_ok-constraints-in-Known.ensures.items ∙ c.deref-in-Known.ensures.value in
-    let demands : Demands = record { requirements = c.deref-in-Known-2.result.now; constraints = c.deref-in-Known-3.result.now } in
-    let copied : demands ≡ record { requirements = c.in-Known.known.requirements.items; constraints = c.in-Known.known.constrains.items } =
-    λ i. record { requirements = copied_requirements i; constraints = copied_constraints i } in
-    let same : needed ≡ demands = demands_known _ _ answer ∙ sym copied in
-    let new = notes_in c.read_demands.new.self in
-    let Brought : Demands → Type 0 = λ d. Brings u (IsDemanded u set d) (IsOwn u (Solvable s) d) old new in
-    subst Brought (sym same) c.read_demands.ensures.brings;
+          let s = c.args.solvable in
+          let set = c.args.chosen.now.keys in
+          let old = notes_in c.args.self.now in
+          let needed = demands_of (u.needs s) in
+          let Called = IsDemanded u set needed in
+          let Own : Origin g.row.N.Denot g.row.S.Denot → Type 0 = IsOwn u (Solvable s) needed in
+          let answer = rw c.in-Known.is at (c.dependencies.ensures u c.fetch_dependencies.ensures.is_true) in
+          let copied_requirements = c.deref-in-Known-2.ensures.value ∙ c.in_ok-requirements-in-Known.ensures.items ∙ c.deref.ensures.value in
+          let copied_constraints = c.deref-in-Known-3.ensures.value ∙ c.in_ok-constraints-in-Known.ensures.items ∙ c.deref-in-Known.ensures.value in
+          let demands : Demands = record { requirements = c.deref-in-Known-2.result.now; constraints = c.deref-in-Known-3.result.now } in
+          let copied : demands ≡ record { requirements = c.in-Known.known.requirements.items; constraints = c.in-Known.known.constrains.items } =
+          λ i. record { requirements = copied_requirements i; constraints = copied_constraints i } in
+          let same : needed ≡ demands = demands_known _ _ answer ∙ sym copied in
+          let new = notes_in c.read_demands.new.self in
+          let Brought : Demands → Type 0 = λ d. Brings u (IsDemanded u set d) (IsOwn u (Solvable s) d) old new in
+          subst Brought (sym same) c.read_demands.ensures.brings;
       room = c.read_demands.ensures.room;
       is_true = c.read_demands.ensures.is_true;
       step = IfOk-from_err c.from_residual-in_err-read_demands-in-Known.result _ c.from_residual-in_err-read_demands-in-Known.ensures.0;
@@ -144,72 +144,72 @@ pub returns-in_ok-forbid_unknown-in-Unknown : goal.returns-in_ok-forbid_unknown-
 returns-in_ok-forbid_unknown-in-Unknown g c =
     record {
       step = let u = g.D.Interner.universe c.args.provider.now in
-    let set = c.args.chosen.now.keys in
-    let Demanded = IsDemanded u set (demands_of (u.needs c.args.solvable)) in
-    IsReadStep-of u (IsUnmet u set (Solvable c.args.solvable)) Demanded (λ root. ⊤) _ _
-    (IsAskStep-of u Demanded (λ root. ⊤) _ _ c.in_ok-forbid_unknown-in-Unknown.ensures.step);
+          let set = c.args.chosen.now.keys in
+          let Demanded = IsDemanded u set (demands_of (u.needs c.args.solvable)) in
+          IsReadStep-of u (IsUnmet u set (Solvable c.args.solvable)) Demanded (λ root. ⊤) _ _
+          (IsAskStep-of u Demanded (λ root. ⊤) _ _ c.in_ok-forbid_unknown-in-Unknown.ensures.step);
       brings = let u = g.D.Interner.universe c.args.provider.now in
-    let s = c.args.solvable in
-    let set = c.args.chosen.now.keys in
-    let old = notes_in c.args.self.now in
-    let needed = demands_of (u.needs s) in
-    let Called = IsDemanded u set needed in
-    let Own : Origin g.row.N.Denot g.row.S.Denot → Type 0 = IsOwn u (Solvable s) needed in
-    own_brings u Called Own (λ o. o ≡ SolvableOrigin s) old (notes_in c.forbid_unknown.new.self) (λ o is. own_itself is) c.forbid_unknown.ensures.adds;
+          let s = c.args.solvable in
+          let set = c.args.chosen.now.keys in
+          let old = notes_in c.args.self.now in
+          let needed = demands_of (u.needs s) in
+          let Called = IsDemanded u set needed in
+          let Own : Origin g.row.N.Denot g.row.S.Denot → Type 0 = IsOwn u (Solvable s) needed in
+          own_brings u Called Own (λ o. o ≡ SolvableOrigin s) old (notes_in c.forbid_unknown.new.self) (λ o is. own_itself is) c.forbid_unknown.ensures.adds;
       is_true = c.fetch_dependencies.ensures.is_true;
       room = c.forbid_unknown.ensures.room;
       refusal = tt;
       read = let u = g.D.Interner.universe c.args.provider.now in
-    let answer = rw c.in-Unknown.is at (c.dependencies.ensures u c.fetch_dependencies.ensures.is_true) in
-    let Read : Needs → Type 0 = λ needs. AreNeedsRead u (notes_in c.forbid_unknown.new.self) c.args.solvable needs in
-    subst Read answer c.in_ok-forbid_unknown-in-Unknown.ensures.forbidden;
+          let answer = rw c.in-Unknown.is at (c.dependencies.ensures u c.fetch_dependencies.ensures.is_true) in
+          let Read : Needs → Type 0 = λ needs. AreNeedsRead u (notes_in c.forbid_unknown.new.self) c.args.solvable needs in
+          subst Read answer c.in_ok-forbid_unknown-in-Unknown.ensures.forbidden;
     }
 
 pub returns-in_ok-read_demands-in-Known : goal.returns-in_ok-read_demands-in-Known
 returns-in_ok-read_demands-in-Known g c =
     record {
       step = let u = g.D.Interner.universe c.args.provider.now in
-    let set = c.args.chosen.now.keys in
-    let answer = rw c.in-Known.is at (c.dependencies.ensures u c.fetch_dependencies.ensures.is_true) in
-    let copied_requirements = c.deref-in-Known-2.ensures.value ∙ c.in_ok-requirements-in-Known.ensures.items ∙ c.deref.ensures.value in
-    let copied_constraints = c.deref-in-Known-3.ensures.value ∙ c.in_ok-constraints-in-Known.ensures.items ∙ c.deref-in-Known.ensures.value in
-    let demands : Demands = record { requirements = c.deref-in-Known-2.result.now; constraints = c.deref-in-Known-3.result.now } in
-    let copied : demands ≡ record { requirements = c.in-Known.known.requirements.items; constraints = c.in-Known.known.constrains.items } =
-    λ i. record { requirements = copied_requirements i; constraints = copied_constraints i } in
-    let same : demands_of (u.needs c.args.solvable) ≡ demands = demands_known _ _ answer ∙ sym copied in
-    let Demanded : Call g.row.N.Denot g.row.S.Denot → Demands → Type 0 = λ n d. IsDemanded u set d n in
-    IsReadStep-weaker u (IsUnmet u set (Solvable c.args.solvable)) (IsDemanded u set demands) (IsDemanded u set (demands_of (u.needs c.args.solvable))) (λ n h.
-    subst (Demanded n) (sym same) h)
-    (λ root. demands_by u root (Solvable c.args.solvable) ≡ demands) (λ root. ⊤) (λ root _. same) _ _ c.in_ok-read_demands-in-Known.ensures.step;
+          let set = c.args.chosen.now.keys in
+          let answer = rw c.in-Known.is at (c.dependencies.ensures u c.fetch_dependencies.ensures.is_true) in
+          let copied_requirements = c.deref-in-Known-2.ensures.value ∙ c.in_ok-requirements-in-Known.ensures.items ∙ c.deref.ensures.value in
+          let copied_constraints = c.deref-in-Known-3.ensures.value ∙ c.in_ok-constraints-in-Known.ensures.items ∙ c.deref-in-Known.ensures.value in
+          let demands : Demands = record { requirements = c.deref-in-Known-2.result.now; constraints = c.deref-in-Known-3.result.now } in
+          let copied : demands ≡ record { requirements = c.in-Known.known.requirements.items; constraints = c.in-Known.known.constrains.items } =
+          λ i. record { requirements = copied_requirements i; constraints = copied_constraints i } in
+          let same : demands_of (u.needs c.args.solvable) ≡ demands = demands_known _ _ answer ∙ sym copied in
+          let Demanded : Call g.row.N.Denot g.row.S.Denot → Demands → Type 0 = λ n d. IsDemanded u set d n in
+          IsReadStep-weaker u (IsUnmet u set (Solvable c.args.solvable)) (IsDemanded u set demands) (IsDemanded u set (demands_of (u.needs c.args.solvable))) (λ n h.
+          subst (Demanded n) (sym same) h)
+          (λ root. demands_by u root (Solvable c.args.solvable) ≡ demands) (λ root. ⊤) (λ root _. same) _ _ c.in_ok-read_demands-in-Known.ensures.step;
       brings = let u = g.D.Interner.universe c.args.provider.now in
-    let s = c.args.solvable in
-    let set = c.args.chosen.now.keys in
-    let old = notes_in c.args.self.now in
-    let needed = demands_of (u.needs s) in
-    let Called = IsDemanded u set needed in
-    let Own : Origin g.row.N.Denot g.row.S.Denot → Type 0 = IsOwn u (Solvable s) needed in
-    let answer = rw c.in-Known.is at (c.dependencies.ensures u c.fetch_dependencies.ensures.is_true) in
-    let copied_requirements = c.deref-in-Known-2.ensures.value ∙ c.in_ok-requirements-in-Known.ensures.items ∙ c.deref.ensures.value in
-    let copied_constraints = c.deref-in-Known-3.ensures.value ∙ c.in_ok-constraints-in-Known.ensures.items ∙ c.deref-in-Known.ensures.value in
-    let demands : Demands = record { requirements = c.deref-in-Known-2.result.now; constraints = c.deref-in-Known-3.result.now } in
-    let copied : demands ≡ record { requirements = c.in-Known.known.requirements.items; constraints = c.in-Known.known.constrains.items } =
-    λ i. record { requirements = copied_requirements i; constraints = copied_constraints i } in
-    let same : needed ≡ demands = demands_known _ _ answer ∙ sym copied in
-    let new = notes_in c.read_demands.new.self in
-    let Brought : Demands → Type 0 = λ d. Brings u (IsDemanded u set d) (IsOwn u (Solvable s) d) old new in
-    subst Brought (sym same) c.read_demands.ensures.brings;
+          let s = c.args.solvable in
+          let set = c.args.chosen.now.keys in
+          let old = notes_in c.args.self.now in
+          let needed = demands_of (u.needs s) in
+          let Called = IsDemanded u set needed in
+          let Own : Origin g.row.N.Denot g.row.S.Denot → Type 0 = IsOwn u (Solvable s) needed in
+          let answer = rw c.in-Known.is at (c.dependencies.ensures u c.fetch_dependencies.ensures.is_true) in
+          let copied_requirements = c.deref-in-Known-2.ensures.value ∙ c.in_ok-requirements-in-Known.ensures.items ∙ c.deref.ensures.value in
+          let copied_constraints = c.deref-in-Known-3.ensures.value ∙ c.in_ok-constraints-in-Known.ensures.items ∙ c.deref-in-Known.ensures.value in
+          let demands : Demands = record { requirements = c.deref-in-Known-2.result.now; constraints = c.deref-in-Known-3.result.now } in
+          let copied : demands ≡ record { requirements = c.in-Known.known.requirements.items; constraints = c.in-Known.known.constrains.items } =
+          λ i. record { requirements = copied_requirements i; constraints = copied_constraints i } in
+          let same : needed ≡ demands = demands_known _ _ answer ∙ sym copied in
+          let new = notes_in c.read_demands.new.self in
+          let Brought : Demands → Type 0 = λ d. Brings u (IsDemanded u set d) (IsOwn u (Solvable s) d) old new in
+          subst Brought (sym same) c.read_demands.ensures.brings;
       is_true = c.read_demands.ensures.is_true;
       room = c.read_demands.ensures.room;
       refusal = tt;
       read = let u = g.D.Interner.universe c.args.provider.now in
-    let answer = rw c.in-Known.is at (c.dependencies.ensures u c.fetch_dependencies.ensures.is_true) in
-    let copied_requirements = c.deref-in-Known-2.ensures.value ∙ c.in_ok-requirements-in-Known.ensures.items ∙ c.deref.ensures.value in
-    let copied_constraints = c.deref-in-Known-3.ensures.value ∙ c.in_ok-constraints-in-Known.ensures.items ∙ c.deref-in-Known.ensures.value in
-    let demands : Demands = record { requirements = c.deref-in-Known-2.result.now; constraints = c.deref-in-Known-3.result.now } in
-    let copied : demands ≡ record { requirements = c.in-Known.known.requirements.items; constraints = c.in-Known.known.constrains.items } =
-    λ i. record { requirements = copied_requirements i; constraints = copied_constraints i } in
-    let Read : Needs → Type 0 = λ needs. AreNeedsRead u (notes_in c.read_demands.new.self) c.args.solvable needs in
-    subst Read answer (subst (λ (d : Demands). Read (known d)) copied c.in_ok-read_demands-in-Known.ensures.read);
+          let answer = rw c.in-Known.is at (c.dependencies.ensures u c.fetch_dependencies.ensures.is_true) in
+          let copied_requirements = c.deref-in-Known-2.ensures.value ∙ c.in_ok-requirements-in-Known.ensures.items ∙ c.deref.ensures.value in
+          let copied_constraints = c.deref-in-Known-3.ensures.value ∙ c.in_ok-constraints-in-Known.ensures.items ∙ c.deref-in-Known.ensures.value in
+          let demands : Demands = record { requirements = c.deref-in-Known-2.result.now; constraints = c.deref-in-Known-3.result.now } in
+          let copied : demands ≡ record { requirements = c.in-Known.known.requirements.items; constraints = c.in-Known.known.constrains.items } =
+          λ i. record { requirements = copied_requirements i; constraints = copied_constraints i } in
+          let Read : Needs → Type 0 = λ needs. AreNeedsRead u (notes_in c.read_demands.new.self) c.args.solvable needs in
+          subst Read answer (subst (λ (d : Demands). Read (known d)) copied c.in_ok-read_demands-in-Known.ensures.read);
     }
 
 pub dependencies-requires-clause-solvables : goal.dependencies-requires-clause-solvables

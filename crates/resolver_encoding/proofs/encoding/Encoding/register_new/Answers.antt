@@ -30,8 +30,8 @@ pub returns-in_err-intern : goal.returns-in_err-intern
 returns-in_err-intern g c =
     record {
       brings = λ root before. Brings-of (g.D.Interner.universe c.args.provider.now) (IsSeeing c.args.solvable) NoneOwn (λ o. o ≡ Solvable c.args.solvable)
-    (notes_in c.args.self.now) _ (λ o is. inr (brought_candidate c.args.solvable refl is))
-    (AddsOnly-such _ _ _ (AddsSuch-push _ _ _ c.intern.ensures.added) refl);
+          (notes_in c.args.self.now) _ (λ o is. inr (brought_candidate c.args.solvable refl is))
+          (AddsOnly-such _ _ _ (AddsSuch-push _ _ _ c.intern.ensures.added) refl);
       room = record { bounded = c.intern.ensures.bounded; variables = c.intern.ensures.limit; clauses = refl };
       step = IfOk-from_err c.from_residual.result _ c.from_residual.ensures.0;
       seen = IfOk-from_err c.from_residual.result _ c.from_residual.ensures.0;
@@ -45,10 +45,10 @@ pub returns-in_err-begin_digit : goal.returns-in_err-begin_digit
 returns-in_err-begin_digit g c =
     record {
       brings = λ root before. (see_brings (g.D.Interner.universe c.args.provider.now) root
-    (notes_in c.args.self.now) before c.solvable_name-name.result c.named-number.result.now c.named-number.ensures.each_at
-    (length c.named-number.result.now) c.args.solvable _ c.named-number.ensures.each refl
-    (AddsOnly-then-such _ _ _ _ (AddsSuch-weaker _ _ (λ o is. own_code _ _ _ _ o (inl is)) _ _
-    (AddsSuch-push _ _ _ c.intern.ensures.added)) c.begin_digit.ensures.adds.origins c.begin_digit.ensures.adds.deferred));
+          (notes_in c.args.self.now) before c.solvable_name-name.result c.named-number.result.now c.named-number.ensures.each_at
+          (length c.named-number.result.now) c.args.solvable _ c.named-number.ensures.each refl
+          (AddsOnly-then-such _ _ _ _ (AddsSuch-weaker _ _ (λ o is. own_code _ _ _ _ o (inl is)) _ _
+          (AddsSuch-push _ _ _ c.intern.ensures.added)) c.begin_digit.ensures.adds.origins c.begin_digit.ensures.adds.deferred));
       room = (let it = c.begin_digit.ensures.room in record { bounded = it.bounded; variables = it.variables ∙ c.intern.ensures.limit; clauses = it.clauses });
       step = IfOk-from_err c.from_residual-in_err-begin_digit.result _ c.from_residual-in_err-begin_digit.ensures.0;
       seen = IfOk-from_err c.from_residual-in_err-begin_digit.result _ c.from_residual-in_err-begin_digit.ensures.0;
@@ -62,12 +62,12 @@ pub returns-in_err-add_code : goal.returns-in_err-add_code
 returns-in_err-add_code g c =
     record {
       brings = λ root before. (see_brings (g.D.Interner.universe c.args.provider.now) root
-    (notes_in c.args.self.now) before c.solvable_name-name.result c.named-number.result.now c.named-number.ensures.each_at
-    (length c.named-number.result.now) c.args.solvable _ c.named-number.ensures.each refl
-    (AddsOnly-trans _ _ _ _ (AddsOnly-then-such _ _ _ _
-    (AddsSuch-weaker _ _ (λ o is. own_code _ _ _ _ o (inl is)) _ _
-    (AddsSuch-push _ _ _ c.intern.ensures.added)) c.begin_digit.ensures.adds.origins c.begin_digit.ensures.adds.deferred)
-    (AddsOnly-weaker _ _ (own_code _ _ _ _) _ _ c.add_code.ensures.adds)));
+          (notes_in c.args.self.now) before c.solvable_name-name.result c.named-number.result.now c.named-number.ensures.each_at
+          (length c.named-number.result.now) c.args.solvable _ c.named-number.ensures.each refl
+          (AddsOnly-trans _ _ _ _ (AddsOnly-then-such _ _ _ _
+          (AddsSuch-weaker _ _ (λ o is. own_code _ _ _ _ o (inl is)) _ _
+          (AddsSuch-push _ _ _ c.intern.ensures.added)) c.begin_digit.ensures.adds.origins c.begin_digit.ensures.adds.deferred)
+          (AddsOnly-weaker _ _ (own_code _ _ _ _) _ _ c.add_code.ensures.adds)));
       room = (let one = c.begin_digit.ensures.room in let two = c.add_code.ensures.room in record { bounded = two.bounded; variables = two.variables ∙ one.variables ∙ c.intern.ensures.limit; clauses = two.clauses ∙ one.clauses });
       step = IfOk-from_err c.from_residual-in_err-add_code.result _ c.from_residual-in_err-add_code.ensures.0;
       seen = IfOk-from_err c.from_residual-in_err-add_code.result _ c.from_residual-in_err-add_code.ensures.0;
@@ -81,12 +81,12 @@ pub returns-in_err-add : goal.returns-in_err-add
 returns-in_err-add g c =
     record {
       brings = λ root before. (see_brings (g.D.Interner.universe c.args.provider.now) root
-    (notes_in c.args.self.now) before c.solvable_name-name.result c.named-number.result.now c.named-number.ensures.each_at
-    (length c.named-number.result.now) c.args.solvable _ c.named-number.ensures.each refl
-    (AddsOnly-same_as _ _ _ _ (AddsOnly-trans _ _ _ _
-    (AddsOnly-then-such _ _ _ _ (AddsSuch-weaker _ _ (λ o is. own_code _ _ _ _ o (inl is)) _ _
-    (AddsSuch-push _ _ _ c.intern.ensures.added)) c.begin_digit.ensures.adds.origins c.begin_digit.ensures.adds.deferred)
-    (AddsOnly-weaker _ _ (own_code _ _ _ _) _ _ c.add_code.ensures.adds)) refl refl));
+          (notes_in c.args.self.now) before c.solvable_name-name.result c.named-number.result.now c.named-number.ensures.each_at
+          (length c.named-number.result.now) c.args.solvable _ c.named-number.ensures.each refl
+          (AddsOnly-same_as _ _ _ _ (AddsOnly-trans _ _ _ _
+          (AddsOnly-then-such _ _ _ _ (AddsSuch-weaker _ _ (λ o is. own_code _ _ _ _ o (inl is)) _ _
+          (AddsSuch-push _ _ _ c.intern.ensures.added)) c.begin_digit.ensures.adds.origins c.begin_digit.ensures.adds.deferred)
+          (AddsOnly-weaker _ _ (own_code _ _ _ _) _ _ c.add_code.ensures.adds)) refl refl));
       room = (let one = c.begin_digit.ensures.room in let two = c.add_code.ensures.room in record { bounded = two.bounded; variables = two.variables ∙ one.variables ∙ c.intern.ensures.limit; clauses = two.clauses ∙ one.clauses });
       step = IfOk-from_err c.from_residual-in_err-add.result _ c.from_residual-in_err-add.ensures.0;
       seen = IfOk-from_err c.from_residual-in_err-add.result _ c.from_residual-in_err-add.ensures.0;
@@ -100,12 +100,12 @@ pub returns-in_err-append : goal.returns-in_err-append
 returns-in_err-append g c =
     record {
       brings = λ root before. (see_brings (g.D.Interner.universe c.args.provider.now) root
-    (notes_in c.args.self.now) before c.solvable_name-name.result c.named-number.result.now c.named-number.ensures.each_at
-    (length c.named-number.result.now) c.args.solvable _ c.named-number.ensures.each refl
-    (AddsOnly-same_as _ _ _ _ (AddsOnly-trans _ _ _ _
-    (AddsOnly-then-such _ _ _ _ (AddsSuch-weaker _ _ (λ o is. own_code _ _ _ _ o (inl is)) _ _
-    (AddsSuch-push _ _ _ c.intern.ensures.added)) c.begin_digit.ensures.adds.origins c.begin_digit.ensures.adds.deferred)
-    (AddsOnly-weaker _ _ (own_code _ _ _ _) _ _ c.add_code.ensures.adds)) refl refl));
+          (notes_in c.args.self.now) before c.solvable_name-name.result c.named-number.result.now c.named-number.ensures.each_at
+          (length c.named-number.result.now) c.args.solvable _ c.named-number.ensures.each refl
+          (AddsOnly-same_as _ _ _ _ (AddsOnly-trans _ _ _ _
+          (AddsOnly-then-such _ _ _ _ (AddsSuch-weaker _ _ (λ o is. own_code _ _ _ _ o (inl is)) _ _
+          (AddsSuch-push _ _ _ c.intern.ensures.added)) c.begin_digit.ensures.adds.origins c.begin_digit.ensures.adds.deferred)
+          (AddsOnly-weaker _ _ (own_code _ _ _ _) _ _ c.add_code.ensures.adds)) refl refl));
       room = (let one = c.begin_digit.ensures.room in let two = c.add_code.ensures.room in record { bounded = two.bounded; variables = two.variables ∙ one.variables ∙ c.intern.ensures.limit; clauses = two.clauses ∙ one.clauses });
       step = IfOk-from_err c.from_residual-in_err-append.result _ c.from_residual-in_err-append.ensures.0;
       seen = IfOk-from_err c.from_residual-in_err-append.result _ c.from_residual-in_err-append.ensures.0;
@@ -119,46 +119,46 @@ pub returns : goal.returns
 returns g c =
     record {
       step = let u = g.D.Interner.universe c.args.provider.now in
-    let s = c.args.solvable in
-    let n = c.solvable_name-name.result in
-    let list = c.named-number.result.now in
-    let k = length list in
-    let old = notes_in c.args.self.now in
-    let mid = notes_in c.add_code.new.self in
-    let begun = c.in_ok-begin_digit.ensures in
-    let code = c.in_ok-add_code.ensures in
-    let grows : Grows old.origins (origins_in c.intern.new.self) = record { keeps = c.intern.ensures.kept; distinct = c.intern.ensures.distinct } in
-    let Sound : Groups g.row.N.Denot g.row.S.Denot → Type 0 = λ gs. AreGroups gs in
-    let same_groups = code.groups ∙ begun.groups in
-    let step = IsStep-trans u (coding_for n k s) (λ root. ⊤) _ _ _ begun.step code.step in
-    IsAskStep-trans u (IsSeeing s) (λ root. ⊤) _ _ _
-    (IsAskStep-of u (IsSeeing s) (λ root. ⊤) _ _
-    (IsStep-origins u idle (λ root. ⊤) old _ (origins_in c.intern.new.self) (limit_in c.intern.new.self) grows c.intern.ensures.limit refl))
-    (IsStep-seen u g.N.PartialEq.eq g.S.PartialEq.eq g.met.D.Interner.names_are_values g.met.D.Interner.solvables_are_values n k s _ mid _ c.add.new.self list
-    (sym c.solvable_name-name.ensures) c.requires.absent
-    step same_groups (code.seen ∙ begun.seen) (λ i. record mid { seen = c.in_ok-append.ensures.keys i; groups = c.add.new.self }) c.in_ok-add.ensures.added
-    (place_in mid.origins _ (Solvable s) (step.origins.kept _ (Solvable s) c.in_ok-intern.ensures.here))
-    c.named-number.ensures.each_at c.named-number.ensures.every_at refl code.code
-    (λ i begins sound j t at. code.step.kinds _ (begun.begun i begins sound j t at)));
+          let s = c.args.solvable in
+          let n = c.solvable_name-name.result in
+          let list = c.named-number.result.now in
+          let k = length list in
+          let old = notes_in c.args.self.now in
+          let mid = notes_in c.add_code.new.self in
+          let begun = c.in_ok-begin_digit.ensures in
+          let code = c.in_ok-add_code.ensures in
+          let grows : Grows old.origins (origins_in c.intern.new.self) = record { keeps = c.intern.ensures.kept; distinct = c.intern.ensures.distinct } in
+          let Sound : Groups g.row.N.Denot g.row.S.Denot → Type 0 = λ gs. AreGroups gs in
+          let same_groups = code.groups ∙ begun.groups in
+          let step = IsStep-trans u (coding_for n k s) (λ root. ⊤) _ _ _ begun.step code.step in
+          IsAskStep-trans u (IsSeeing s) (λ root. ⊤) _ _ _
+          (IsAskStep-of u (IsSeeing s) (λ root. ⊤) _ _
+          (IsStep-origins u idle (λ root. ⊤) old _ (origins_in c.intern.new.self) (limit_in c.intern.new.self) grows c.intern.ensures.limit refl))
+          (IsStep-seen u g.N.PartialEq.eq g.S.PartialEq.eq g.met.D.Interner.names_are_values g.met.D.Interner.solvables_are_values n k s _ mid _ c.add.new.self list
+          (sym c.solvable_name-name.ensures) c.requires.absent
+          step same_groups (code.seen ∙ begun.seen) (λ i. record mid { seen = c.in_ok-append.ensures.keys i; groups = c.add.new.self }) c.in_ok-add.ensures.added
+          (place_in mid.origins _ (Solvable s) (step.origins.kept _ (Solvable s) c.in_ok-intern.ensures.here))
+          c.named-number.ensures.each_at c.named-number.ensures.every_at refl code.code
+          (λ i begins sound j t at. code.step.kinds _ (begun.begun i begins sound j t at)));
       asked = c.in_ok-add_code.ensures.step.asked ∙ c.in_ok-begin_digit.ensures.step.asked;
       seen = let Has : List g.row.S.Denot → Type 0 = λ list. Contains list c.args.solvable in
-    subst Has (sym c.in_ok-append.ensures.keys) (Contains-push c.add_code.new.self.seen.keys c.args.solvable);
+          subst Has (sym c.in_ok-append.ensures.keys) (Contains-push c.add_code.new.self.seen.keys c.args.solvable);
       only = λ t h.
-    let mid = notes_in c.add_code.new.self in
-    ⊎_elim
-    (λ (before : Contains mid.seen t). inl
-    (IsWithin-equal mid.seen (notes_in c.args.self.now).seen (sym (c.in_ok-add_code.ensures.seen ∙ c.in_ok-begin_digit.ensures.seen)) t before))
-    (λ (last : c.args.solvable ≡ t). inr (sym last))
-    (Contains-push_cases mid.seen c.args.solvable t
-    (IsWithin-equal c.append.new.set.keys (mid.seen ++ c.args.solvable ∷ []) (sym c.in_ok-append.ensures.keys) t h));
+          let mid = notes_in c.add_code.new.self in
+          ⊎_elim
+          (λ (before : Contains mid.seen t). inl
+          (IsWithin-equal mid.seen (notes_in c.args.self.now).seen (sym (c.in_ok-add_code.ensures.seen ∙ c.in_ok-begin_digit.ensures.seen)) t before))
+          (λ (last : c.args.solvable ≡ t). inr (sym last))
+          (Contains-push_cases mid.seen c.args.solvable t
+          (IsWithin-equal c.append.new.set.keys (mid.seen ++ c.args.solvable ∷ []) (sym c.in_ok-append.ensures.keys) t h));
       brings = λ root before.
-    (see_brings (g.D.Interner.universe c.args.provider.now) root
-    (notes_in c.args.self.now) before c.solvable_name-name.result c.named-number.result.now c.named-number.ensures.each_at
-    (length c.named-number.result.now) c.args.solvable _ c.named-number.ensures.each refl
-    (AddsOnly-same_as _ _ _ _ (AddsOnly-trans _ _ _ _
-    (AddsOnly-then-such _ _ _ _ (AddsSuch-weaker _ _ (λ o is. own_code _ _ _ _ o (inl is)) _ _
-    (AddsSuch-push _ _ _ c.intern.ensures.added)) c.begin_digit.ensures.adds.origins c.begin_digit.ensures.adds.deferred)
-    (AddsOnly-weaker _ _ (own_code _ _ _ _) _ _ c.add_code.ensures.adds)) refl refl));
+          (see_brings (g.D.Interner.universe c.args.provider.now) root
+          (notes_in c.args.self.now) before c.solvable_name-name.result c.named-number.result.now c.named-number.ensures.each_at
+          (length c.named-number.result.now) c.args.solvable _ c.named-number.ensures.each refl
+          (AddsOnly-same_as _ _ _ _ (AddsOnly-trans _ _ _ _
+          (AddsOnly-then-such _ _ _ _ (AddsSuch-weaker _ _ (λ o is. own_code _ _ _ _ o (inl is)) _ _
+          (AddsSuch-push _ _ _ c.intern.ensures.added)) c.begin_digit.ensures.adds.origins c.begin_digit.ensures.adds.deferred)
+          (AddsOnly-weaker _ _ (own_code _ _ _ _) _ _ c.add_code.ensures.adds)) refl refl));
       room = (let one = c.begin_digit.ensures.room in let two = c.add_code.ensures.room in record { bounded = two.bounded; variables = two.variables ∙ one.variables ∙ c.intern.ensures.limit; clauses = two.clauses ∙ one.clauses });
       requirements = c.in_ok-add_code.ensures.requirements ∙ c.in_ok-begin_digit.ensures.requirements;
       refusal = tt;

@@ -21,15 +21,15 @@ use Rattle.std.proofs.Common.{refl}
 use Rattle.resolver_encoding.proofs.encoding.Encoding.restore.Goals as goal
 
 pub restore_exclusions-requires-clause-asked : goal.restore_exclusions-requires-clause-asked
-restore_exclusions-requires-clause-asked g c =     let Has : List g.row.N.Denot → Type 0 = λ list. Contains list c.solvable_name-name.result in
+restore_exclusions-requires-clause-asked g c = let Has : List g.row.N.Denot → Type 0 = λ list. Contains list c.solvable_name-name.result in
     subst Has (sym c.in_ok-restore_lock.ensures.step.asked) c.if-not-is_among.ensures
 
 pub returns-then-not-is_among : goal.returns-then-not-is_among
 returns-then-not-is_among g c =
     record {
       restored = let u = g.D.Interner.universe c.args.provider.now in
-    let Asked : g.row.N.Denot → Type 0 = λ n. Contains (notes_in c.args.self.now).asked n → ⊥ in
-    IsRestored-unasked u c.args.solvable (notes_in c.args.self.now) (subst Asked c.solvable_name-name.ensures c.if-not-is_among.ensures);
+          let Asked : g.row.N.Denot → Type 0 = λ n. Contains (notes_in c.args.self.now).asked n → ⊥ in
+          IsRestored-unasked u c.args.solvable (notes_in c.args.self.now) (subst Asked c.solvable_name-name.ensures c.if-not-is_among.ensures);
       room = KeepsRoom-same _ c.requires.bounded;
       is_true = c.requires.is_true;
       step = IsStep-same (g.D.Interner.universe c.args.provider.now) (owing_for c.args.solvable) (λ root. ⊤) (notes_in c.args.self.now);
@@ -54,11 +54,11 @@ pub returns-in_err-restore_lock : goal.returns-in_err-restore_lock
 returns-in_err-restore_lock g c =
     record {
       adds = let u = g.D.Interner.universe c.args.provider.now in
-    let old = notes_in c.args.self.now in
-    let n = c.solvable_name-name.result in
-    let followed : (o : Origin g.row.N.Denot g.row.S.Denot) → IsBarred u (IsAsking n) o → IsBarred u (IsFollowed old) o =
-    IsBarred-weaker u (IsAsking n) (IsFollowed old) (asked_followed u old n c.if-not-is_among.ensures) in
-    AddsOnly-weaker (IsBarred u (IsAsking n)) (IsBarred u (IsFollowed old)) followed old (notes_in c.restore_lock.new.self) c.restore_lock.ensures.adds;
+          let old = notes_in c.args.self.now in
+          let n = c.solvable_name-name.result in
+          let followed : (o : Origin g.row.N.Denot g.row.S.Denot) → IsBarred u (IsAsking n) o → IsBarred u (IsFollowed old) o =
+          IsBarred-weaker u (IsAsking n) (IsFollowed old) (asked_followed u old n c.if-not-is_among.ensures) in
+          AddsOnly-weaker (IsBarred u (IsAsking n)) (IsBarred u (IsFollowed old)) followed old (notes_in c.restore_lock.new.self) c.restore_lock.ensures.adds;
       room = c.restore_lock.ensures.room;
       is_true = c.fetch_candidates.ensures.is_true;
       step = IfOk-from_err c.from_residual-in_err-restore_lock.result _ c.from_residual-in_err-restore_lock.ensures.0;
@@ -71,14 +71,14 @@ pub returns-in_err-restore_exclusions : goal.returns-in_err-restore_exclusions
 returns-in_err-restore_exclusions g c =
     record {
       adds = let u = g.D.Interner.universe c.args.provider.now in
-    let old = notes_in c.args.self.now in
-    let n = c.solvable_name-name.result in
-    let followed : (o : Origin g.row.N.Denot g.row.S.Denot) → IsBarred u (IsAsking n) o → IsBarred u (IsFollowed old) o =
-    IsBarred-weaker u (IsAsking n) (IsFollowed old) (asked_followed u old n c.if-not-is_among.ensures) in
-    let mid = notes_in c.restore_lock.new.self in
-    let new = notes_in c.restore_exclusions.new.self in
-    AddsOnly-weaker (IsBarred u (IsAsking n)) (IsBarred u (IsFollowed old)) followed old new
-    (AddsOnly-trans (IsBarred u (IsAsking n)) old mid new c.restore_lock.ensures.adds c.restore_exclusions.ensures.adds);
+          let old = notes_in c.args.self.now in
+          let n = c.solvable_name-name.result in
+          let followed : (o : Origin g.row.N.Denot g.row.S.Denot) → IsBarred u (IsAsking n) o → IsBarred u (IsFollowed old) o =
+          IsBarred-weaker u (IsAsking n) (IsFollowed old) (asked_followed u old n c.if-not-is_among.ensures) in
+          let mid = notes_in c.restore_lock.new.self in
+          let new = notes_in c.restore_exclusions.new.self in
+          AddsOnly-weaker (IsBarred u (IsAsking n)) (IsBarred u (IsFollowed old)) followed old new
+          (AddsOnly-trans (IsBarred u (IsAsking n)) old mid new c.restore_lock.ensures.adds c.restore_exclusions.ensures.adds);
       room = KeepsRoom-trans _ _ _ c.restore_lock.ensures.room c.restore_exclusions.ensures.room;
       is_true = c.fetch_candidates.ensures.is_true;
       step = IfOk-from_err c.from_residual-in_err-restore_exclusions.result _ c.from_residual-in_err-restore_exclusions.ensures.0;
@@ -91,25 +91,25 @@ pub returns : goal.returns
 returns g c =
     record {
       step = IsStep-trans (g.D.Interner.universe c.args.provider.now) (owing_for c.args.solvable) (λ root.
-    ⊤) _ _ _ c.in_ok-restore_lock.ensures.step c.in_ok-restore_exclusions.ensures.step;
+          ⊤) _ _ _ c.in_ok-restore_lock.ensures.step c.in_ok-restore_exclusions.ensures.step;
       plain = AddsPlainly-trans
-    (g.D.Interner.universe c.args.provider.now) _ _ _ c.in_ok-restore_lock.ensures.plain c.in_ok-restore_exclusions.ensures.plain;
+          (g.D.Interner.universe c.args.provider.now) _ _ _ c.in_ok-restore_lock.ensures.plain c.in_ok-restore_exclusions.ensures.plain;
       restored = let u = g.D.Interner.universe c.args.provider.now in
-    let answer = c.candidates-package.ensures u c.fetch_candidates.ensures.is_true in
-    IsRestored-found u c.args.solvable (notes_in c.args.self.now) (notes_in c.restore_lock.new.self)
-    (notes_in c.restore_exclusions.new.self) c.solvable_name-name.result c.solvable_name-name.ensures
-    c.in_ok-restore_exclusions.ensures.step.kinds c.in_ok-restore_lock.ensures.step.exempt c.in_ok-restore_exclusions.ensures.step.exempt _ _ _
-    (c.deref.ensures.value ∙ ap (λ p. p.listed) answer) (ap (λ p. p.locked) answer) (c.deref-2.ensures.value ∙ ap (λ p. p.excluded) answer)
-    c.in_ok-restore_lock.ensures.restored c.in_ok-restore_exclusions.ensures.restored;
+          let answer = c.candidates-package.ensures u c.fetch_candidates.ensures.is_true in
+          IsRestored-found u c.args.solvable (notes_in c.args.self.now) (notes_in c.restore_lock.new.self)
+          (notes_in c.restore_exclusions.new.self) c.solvable_name-name.result c.solvable_name-name.ensures
+          c.in_ok-restore_exclusions.ensures.step.kinds c.in_ok-restore_lock.ensures.step.exempt c.in_ok-restore_exclusions.ensures.step.exempt _ _ _
+          (c.deref.ensures.value ∙ ap (λ p. p.listed) answer) (ap (λ p. p.locked) answer) (c.deref-2.ensures.value ∙ ap (λ p. p.excluded) answer)
+          c.in_ok-restore_lock.ensures.restored c.in_ok-restore_exclusions.ensures.restored;
       adds = let u = g.D.Interner.universe c.args.provider.now in
-    let old = notes_in c.args.self.now in
-    let n = c.solvable_name-name.result in
-    let followed : (o : Origin g.row.N.Denot g.row.S.Denot) → IsBarred u (IsAsking n) o → IsBarred u (IsFollowed old) o =
-    IsBarred-weaker u (IsAsking n) (IsFollowed old) (asked_followed u old n c.if-not-is_among.ensures) in
-    let mid = notes_in c.restore_lock.new.self in
-    let new = notes_in c.restore_exclusions.new.self in
-    AddsOnly-weaker (IsBarred u (IsAsking n)) (IsBarred u (IsFollowed old)) followed old new
-    (AddsOnly-trans (IsBarred u (IsAsking n)) old mid new c.restore_lock.ensures.adds c.restore_exclusions.ensures.adds);
+          let old = notes_in c.args.self.now in
+          let n = c.solvable_name-name.result in
+          let followed : (o : Origin g.row.N.Denot g.row.S.Denot) → IsBarred u (IsAsking n) o → IsBarred u (IsFollowed old) o =
+          IsBarred-weaker u (IsAsking n) (IsFollowed old) (asked_followed u old n c.if-not-is_among.ensures) in
+          let mid = notes_in c.restore_lock.new.self in
+          let new = notes_in c.restore_exclusions.new.self in
+          AddsOnly-weaker (IsBarred u (IsAsking n)) (IsBarred u (IsFollowed old)) followed old new
+          (AddsOnly-trans (IsBarred u (IsAsking n)) old mid new c.restore_lock.ensures.adds c.restore_exclusions.ensures.adds);
       room = KeepsRoom-trans _ _ _ c.restore_lock.ensures.room c.restore_exclusions.ensures.room;
       is_true = c.fetch_candidates.ensures.is_true;
       refusal = tt;
