@@ -39,7 +39,8 @@ returns-in_err-add_gate-in-GateRequires g c =
     record {
       is_true = c.add_gate.ensures.is_true;
       added = IfOk-from_err c.from_residual-in_err-add_gate-in-GateRequires.result _ c.from_residual-in_err-add_gate-in-GateRequires.ensures.0;
-      refusal = IfErr-of c.from_residual-in_err-add_gate-in-GateRequires.result _ _ c.from_residual-in_err-add_gate-in-GateRequires.ensures.1 c.in_err-add_gate-in-GateRequires.ensures.refusal;
+      refusal = IfErr-of c.from_residual-in_err-add_gate-in-GateRequires.result _ _ c.from_residual-in_err-add_gate-in-GateRequires.ensures.1
+          c.in_err-add_gate-in-GateRequires.ensures.refusal;
     }
 
 pub returns-in_ok-add_gate-in-GateRequires : goal.returns-in_ok-add_gate-in-GateRequires
@@ -64,7 +65,8 @@ returns-in_err-constrain-in-Constrains g c =
     record {
       is_true = c.requires.is_true;
       added = IfOk-from_err c.from_residual-in_err-constrain-in-Constrains.result _ c.from_residual-in_err-constrain-in-Constrains.ensures.0;
-      refusal = IfErr-of c.from_residual-in_err-constrain-in-Constrains.result _ _ c.from_residual-in_err-constrain-in-Constrains.ensures.1 c.in_err-constrain-in-Constrains.ensures.memory;
+      refusal = IfErr-of c.from_residual-in_err-constrain-in-Constrains.result _ _ c.from_residual-in_err-constrain-in-Constrains.ensures.1
+          c.in_err-constrain-in-Constrains.ensures.memory;
     }
 
 pub returns-in_ok-constrain-in-Constrains : goal.returns-in_ok-constrain-in-Constrains
@@ -81,8 +83,10 @@ pub returns-in_err-constrain_each-in-ConstrainsParent : goal.returns-in_err-cons
 returns-in_err-constrain_each-in-ConstrainsParent g c =
     record {
       is_true = c.requires.is_true;
-      added = IfOk-from_err c.from_residual-in_err-constrain_each-in-ConstrainsParent.result _ c.from_residual-in_err-constrain_each-in-ConstrainsParent.ensures.0;
-      refusal = IfErr-of c.from_residual-in_err-constrain_each-in-ConstrainsParent.result _ _ c.from_residual-in_err-constrain_each-in-ConstrainsParent.ensures.1 c.in_err-constrain_each-in-ConstrainsParent.ensures.memory;
+      added = IfOk-from_err c.from_residual-in_err-constrain_each-in-ConstrainsParent.result _
+          c.from_residual-in_err-constrain_each-in-ConstrainsParent.ensures.0;
+      refusal = IfErr-of c.from_residual-in_err-constrain_each-in-ConstrainsParent.result _ _
+          c.from_residual-in_err-constrain_each-in-ConstrainsParent.ensures.1 c.in_err-constrain_each-in-ConstrainsParent.ensures.memory;
     }
 
 pub returns-in_ok-constrain_each-in-ConstrainsParent : goal.returns-in_ok-constrain_each-in-ConstrainsParent
@@ -126,7 +130,8 @@ returns-in_err-exclude-in-Excluded g c =
     record {
       is_true = c.requires.is_true;
       added = IfOk-from_err c.from_residual-in_err-exclude-in-Excluded.result _ c.from_residual-in_err-exclude-in-Excluded.ensures.0;
-      refusal = IfErr-of c.from_residual-in_err-exclude-in-Excluded.result _ _ c.from_residual-in_err-exclude-in-Excluded.ensures.1 c.in_err-exclude-in-Excluded.ensures.memory;
+      refusal = IfErr-of c.from_residual-in_err-exclude-in-Excluded.result _ _ c.from_residual-in_err-exclude-in-Excluded.ensures.1
+          c.in_err-exclude-in-Excluded.ensures.memory;
     }
 
 pub returns-in_ok-exclude-in-Excluded : goal.returns-in_ok-exclude-in-Excluded

@@ -50,7 +50,8 @@ returns-in_err-choices g c =
       step = IfOk-from_err c.from_residual-in_err-choices.result _ c.from_residual-in_err-choices.ensures.0;
       asked = IfOk-from_err c.from_residual-in_err-choices.result _ c.from_residual-in_err-choices.ensures.0;
       seen = IfOk-from_err c.from_residual-in_err-choices.result _ c.from_residual-in_err-choices.ensures.0;
-      refusal = IfErr-stop c.from_residual-in_err-choices.result (g.D.DependencyProvider.may_cancel c.args.provider.now) _ c.in_err-choices.field-0.0 c.from_residual-in_err-choices.ensures.1 c.in_err-choices.ensures.refusal;
+      refusal = IfErr-stop c.from_residual-in_err-choices.result (g.D.DependencyProvider.may_cancel c.args.provider.now) _
+          c.in_err-choices.field-0.0 c.from_residual-in_err-choices.ensures.1 c.in_err-choices.ensures.refusal;
     }
 
 pub returns-in_err-see_all : goal.returns-in_err-see_all
@@ -71,7 +72,8 @@ returns-in_err-see_all g c =
           Brings-trans u (IsWantedBy u r) NoneOwn old mid (notes_in c.see_all.new.self) named asked
           (Brings-weaker u (IsSeeingEach list) (IsWantedBy u r) wanted NoneOwn NoneOwn (λ o h. h) mid (notes_in c.see_all.new.self)
           (c.see_all.ensures.brings root (step.keeps root tt before)));
-      room = (let one = c.ask_named.ensures.room in let two = c.see_all.ensures.room in record { bounded = two.bounded; variables = two.variables ∙ one.variables; clauses = two.clauses ∙ one.clauses });
+      room = (let one = c.ask_named.ensures.room in let two = c.see_all.ensures.room in
+          record { bounded = two.bounded; variables = two.variables ∙ one.variables; clauses = two.clauses ∙ one.clauses });
       is_true = c.choices_of.ensures.is_true;
       candidates = IfOk-from_err c.from_residual-in_err-see_all.result _ c.from_residual-in_err-see_all.ensures.0;
       small = IfOk-from_err c.from_residual-in_err-see_all.result _ c.from_residual-in_err-see_all.ensures.0;
@@ -90,7 +92,8 @@ returns g c =
           IsAskStep-trans u (IsWantedBy u r) (λ root. ⊤) _ _ _
           (IsAskStep-weaker u (IsNamedBy u (version_sets u r)) (IsWantedBy u r) (named_wanted u r) (λ root. ⊤) (λ root. ⊤) (λ root _.
           tt) _ _ c.in_ok-ask_named.ensures.step)
-          (IsAskStep-weaker u (IsSeeingEach list) (IsWantedBy u r) (listed_wanted u r list (c.deref.ensures.value ∙ c.in_ok-choices.ensures.candidates)) (λ root.
+          (IsAskStep-weaker u (IsSeeingEach list) (IsWantedBy u r) (listed_wanted u r list (c.deref.ensures.value ∙ c.in_ok-choices.ensures.candidates))
+          (λ root.
           ⊤) (λ root. ⊤) (λ root _. tt) _ _ c.in_ok-see_all.ensures.step);
       asked = let u = g.D.Interner.universe c.args.provider.now in
           All-weaker (λ v. Contains (notes_in c.ask_named.new.self).asked (u.version_set_name v)) (λ v.
@@ -113,7 +116,8 @@ returns g c =
           Brings-trans u (IsWantedBy u r) NoneOwn old mid (notes_in c.see_all.new.self) named asked
           (Brings-weaker u (IsSeeingEach list) (IsWantedBy u r) wanted NoneOwn NoneOwn (λ o h. h) mid (notes_in c.see_all.new.self)
           (c.see_all.ensures.brings root (step.keeps root tt before)));
-      room = (let one = c.ask_named.ensures.room in let two = c.see_all.ensures.room in record { bounded = two.bounded; variables = two.variables ∙ one.variables; clauses = two.clauses ∙ one.clauses });
+      room = (let one = c.ask_named.ensures.room in let two = c.see_all.ensures.room in
+          record { bounded = two.bounded; variables = two.variables ∙ one.variables; clauses = two.clauses ∙ one.clauses });
       is_true = c.choices_of.ensures.is_true;
       candidates = c.in_ok-choices.ensures.candidates;
       small = c.in_ok-choices.ensures.small;

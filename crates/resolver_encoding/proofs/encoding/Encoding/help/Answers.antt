@@ -42,7 +42,8 @@ returns-in_err-fetch_matching g c =
       step = IfOk-from_err c.from_residual.result _ c.from_residual.ensures.0;
       helped = IfOk-from_err c.from_residual.result _ c.from_residual.ensures.0;
       adds = AddsOnly-equal _ _ _ refl refl;
-      refusal = IfErr-stop c.from_residual.result (g.D.DependencyProvider.may_cancel c.args.provider.now) _ c.in_err-fetch_matching.field-0.0 c.from_residual.ensures.1 c.in_err-fetch_matching.ensures.refusal;
+      refusal = IfErr-stop c.from_residual.result (g.D.DependencyProvider.may_cancel c.args.provider.now) _
+          c.in_err-fetch_matching.field-0.0 c.from_residual.ensures.1 c.in_err-fetch_matching.ensures.refusal;
     }
 
 pub returns-in_err-imply_each : goal.returns-in_err-imply_each
@@ -64,7 +65,8 @@ returns-in_err-append g c =
       is_true = c.fetch_matching.ensures.is_true;
       step = IfOk-from_err c.from_residual-in_err-append.result _ c.from_residual-in_err-append.ensures.0;
       helped = IfOk-from_err c.from_residual-in_err-append.result _ c.from_residual-in_err-append.ensures.0;
-      refusal = IfErr-of c.from_residual-in_err-append.result _ _ c.from_residual-in_err-append.ensures.1 (shortage_of_memory _ _ c.in_err-append.ensures.memory);
+      refusal = IfErr-of c.from_residual-in_err-append.result _ _ c.from_residual-in_err-append.ensures.1
+          (shortage_of_memory _ _ c.in_err-append.ensures.memory);
     }
 
 pub returns : goal.returns

@@ -48,7 +48,8 @@ returns-in_err-append g c =
       room = (let it = c.add_with.ensures.room in record { bounded = it.bounded; variables = it.variables; clauses = it.clauses });
       step = IfOk-from_err c.from_residual-in_err-append.result _ c.from_residual-in_err-append.ensures.0;
       gate = IfOk-from_err c.from_residual-in_err-append.result _ c.from_residual-in_err-append.ensures.0;
-      refusal = IfErr-of c.from_residual-in_err-append.result _ _ c.from_residual-in_err-append.ensures.1 (shortage_of_memory _ _ c.in_err-append.ensures.memory);
+      refusal = IfErr-of c.from_residual-in_err-append.result _ _ c.from_residual-in_err-append.ensures.1
+          (shortage_of_memory _ _ c.in_err-append.ensures.memory);
     }
 
 pub returns : goal.returns

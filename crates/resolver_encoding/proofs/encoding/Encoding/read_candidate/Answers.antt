@@ -62,7 +62,8 @@ returns-in_err-fetch_candidates g c =
       here = IfOk-from_err c.from_residual.result _ c.from_residual.ensures.0;
       hintless = IfOk-from_err c.from_residual.result _ c.from_residual.ensures.0;
       more = IfOk-from_err c.from_residual.result _ c.from_residual.ensures.0;
-      refusal = IfErr-stop c.from_residual.result (g.D.DependencyProvider.may_cancel c.args.provider.now) _ c.in_err-fetch_candidates.field-0.0 c.from_residual.ensures.1 c.in_err-fetch_candidates.ensures.refusal;
+      refusal = IfErr-stop c.from_residual.result (g.D.DependencyProvider.may_cancel c.args.provider.now) _
+          c.in_err-fetch_candidates.field-0.0 c.from_residual.ensures.1 c.in_err-fetch_candidates.ensures.refusal;
     }
 
 pub returns-then-is_out_of_reach-2 : goal.returns-then-is_out_of_reach-2
@@ -71,7 +72,8 @@ returns-then-is_out_of_reach-2 g c =
       reading = IsReadingOf-same (g.D.Interner.universe c.args.provider.now) c.args.chosen.now.keys (λ s. c.args.candidate ≡ s) (notes_in c.args.self.now);
       here = λ covered.
           absurd (unhinted (g.D.Interner.universe c.args.provider.now) c.without_hints-next.result c.solvable_name-name.result c.args.candidate
-          (c.is_out_of_reach-2.ensures c.if-is_out_of_reach-2.true) (c.without_hints-next.ensures (g.D.Interner.universe c.args.provider.now) c.fetch_candidates.ensures.is_true) c.solvable_name-name.ensures covered);
+          (c.is_out_of_reach-2.ensures c.if-is_out_of_reach-2.true) (c.without_hints-next.ensures (g.D.Interner.universe c.args.provider.now)
+          c.fetch_candidates.ensures.is_true) c.solvable_name-name.ensures covered);
       more = inl refl;
       brings = let u = g.D.Interner.universe c.args.provider.now in
           let needed = demands_of (u.needs c.args.candidate) in
@@ -93,7 +95,8 @@ returns-in_err-read_if_at_hand g c =
       here = IfOk-from_err c.from_residual-in_err-read_if_at_hand.result _ c.from_residual-in_err-read_if_at_hand.ensures.0;
       hintless = IfOk-from_err c.from_residual-in_err-read_if_at_hand.result _ c.from_residual-in_err-read_if_at_hand.ensures.0;
       more = IfOk-from_err c.from_residual-in_err-read_if_at_hand.result _ c.from_residual-in_err-read_if_at_hand.ensures.0;
-      refusal = IfErr-of c.from_residual-in_err-read_if_at_hand.result _ _ c.from_residual-in_err-read_if_at_hand.ensures.1 c.in_err-read_if_at_hand.ensures.refusal;
+      refusal = IfErr-of c.from_residual-in_err-read_if_at_hand.result _ _ c.from_residual-in_err-read_if_at_hand.ensures.1
+          c.in_err-read_if_at_hand.ensures.refusal;
     }
 
 pub returns : goal.returns

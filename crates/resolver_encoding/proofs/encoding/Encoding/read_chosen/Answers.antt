@@ -88,7 +88,8 @@ returns-in_err-fired g c =
       more = IfOk-from_err c.from_residual-in_err-fired.result _ c.from_residual-in_err-fired.ensures.0;
       progress = IfOk-from_err c.from_residual-in_err-fired.result _ c.from_residual-in_err-fired.ensures.0;
       fit = IfOk-from_err c.from_residual-in_err-fired.result _ c.from_residual-in_err-fired.ensures.0;
-      limits = (let it = KeepsRoom-trans _ _ _ c.read_each.ensures.room c.fire_deferred.ensures.room in record { variables = it.variables; clauses = it.clauses });
+      limits = (let it = KeepsRoom-trans _ _ _ c.read_each.ensures.room c.fire_deferred.ensures.room in
+          record { variables = it.variables; clauses = it.clauses });
       refusal = IfErr-of c.from_residual-in_err-fired.result _ _ c.from_residual-in_err-fired.ensures.1 c.in_err-fired.ensures.refusal;
     }
 
@@ -117,7 +118,8 @@ returns-in_err-hinted g c =
       more = IfOk-from_err c.from_residual-in_err-hinted.result _ c.from_residual-in_err-hinted.ensures.0;
       progress = IfOk-from_err c.from_residual-in_err-hinted.result _ c.from_residual-in_err-hinted.ensures.0;
       fit = IfOk-from_err c.from_residual-in_err-hinted.result _ c.from_residual-in_err-hinted.ensures.0;
-      limits = (let it = KeepsRoom-trans _ _ _ c.read_each.ensures.room (KeepsRoom-trans _ _ _ c.fire_deferred.ensures.room c.read_hinted.ensures.room) in record { variables = it.variables; clauses = it.clauses });
+      limits = (let it = KeepsRoom-trans _ _ _ c.read_each.ensures.room (KeepsRoom-trans _ _ _ c.fire_deferred.ensures.room c.read_hinted.ensures.room) in
+          record { variables = it.variables; clauses = it.clauses });
       refusal = IfErr-of c.from_residual-in_err-hinted.result _ _ c.from_residual-in_err-hinted.ensures.1 c.in_err-hinted.ensures.refusal;
     }
 
@@ -137,7 +139,8 @@ returns g c =
           let hinted = subst From c.requirement_count-clauses.ensures c.in_ok-hinted.ensures.reading in
           let half = reading.keeps root so.half in
           so_far_on u set root (IsListedFrom new (length old.requirements)) fired new
-          (so_far u set old mid fired reading firing root c.args.from so c.in_ok-read.ensures.here (c.in_ok-fired.ensures.quiet half.encoding.sound_deferred_by_name)
+          (so_far u set old mid fired reading firing root c.args.from so c.in_ok-read.ensures.here
+          (c.in_ok-fired.ensures.quiet half.encoding.sound_deferred_by_name)
           (lawful_solvables u g.S.PartialEq.eq (g.met.D.Interner.lawful_ids c.args.provider.now)
           (g.met.D.Interner.solvables_compare c.args.provider.now) g.met.D.Interner.solvables_are_values)
           (g.met.D.DependencyProvider.lawful_packages c.args.provider.now))
@@ -213,6 +216,7 @@ returns g c =
       bounded = c.read_hinted.ensures.room.bounded;
       is_true = c.read_hinted.ensures.is_true;
       fit = c.in_ok-hinted.ensures.fit;
-      limits = (let it = KeepsRoom-trans _ _ _ c.read_each.ensures.room (KeepsRoom-trans _ _ _ c.fire_deferred.ensures.room c.read_hinted.ensures.room) in record { variables = it.variables; clauses = it.clauses });
+      limits = (let it = KeepsRoom-trans _ _ _ c.read_each.ensures.room (KeepsRoom-trans _ _ _ c.fire_deferred.ensures.room c.read_hinted.ensures.room) in
+          record { variables = it.variables; clauses = it.clauses });
       refusal = tt;
     }

@@ -57,7 +57,8 @@ returns-in_err-fetch_non_matching g c =
       step = IfOk-from_err c.from_residual-in_err-fetch_non_matching.result _ c.from_residual-in_err-fetch_non_matching.ensures.0;
       read = IfOk-from_err c.from_residual-in_err-fetch_non_matching.result _ c.from_residual-in_err-fetch_non_matching.ensures.0;
       asked = IfOk-from_err c.from_residual-in_err-fetch_non_matching.result _ c.from_residual-in_err-fetch_non_matching.ensures.0;
-      refusal = IfErr-stop c.from_residual-in_err-fetch_non_matching.result (g.D.DependencyProvider.may_cancel c.args.provider.now) _ c.in_err-fetch_non_matching.field-0.0 c.from_residual-in_err-fetch_non_matching.ensures.1 c.in_err-fetch_non_matching.ensures.refusal;
+      refusal = IfErr-stop c.from_residual-in_err-fetch_non_matching.result (g.D.DependencyProvider.may_cancel c.args.provider.now) _
+          c.in_err-fetch_non_matching.field-0.0 c.from_residual-in_err-fetch_non_matching.ensures.1 c.in_err-fetch_non_matching.ensures.refusal;
     }
 
 pub returns-in_err-constrain_each : goal.returns-in_err-constrain_each
@@ -78,7 +79,8 @@ returns-in_err-constrain_each g c =
       step = IfOk-from_err c.from_residual-in_err-constrain_each.result _ c.from_residual-in_err-constrain_each.ensures.0;
       read = IfOk-from_err c.from_residual-in_err-constrain_each.result _ c.from_residual-in_err-constrain_each.ensures.0;
       asked = IfOk-from_err c.from_residual-in_err-constrain_each.result _ c.from_residual-in_err-constrain_each.ensures.0;
-      refusal = IfErr-of c.from_residual-in_err-constrain_each.result _ _ c.from_residual-in_err-constrain_each.ensures.1 c.in_err-constrain_each.ensures.refusal;
+      refusal = IfErr-of c.from_residual-in_err-constrain_each.result _ _ c.from_residual-in_err-constrain_each.ensures.1
+          c.in_err-constrain_each.ensures.refusal;
     }
 
 pub returns-then-forbidden-lt-CONSTRAINT_HELPER_THRESHOLD : goal.returns-then-forbidden-lt-CONSTRAINT_HELPER_THRESHOLD
@@ -127,7 +129,8 @@ returns-in_err-constrain_by_helper g c =
       step = IfOk-from_err c.from_residual-in_err-constrain_by_helper.result _ c.from_residual-in_err-constrain_by_helper.ensures.0;
       read = IfOk-from_err c.from_residual-in_err-constrain_by_helper.result _ c.from_residual-in_err-constrain_by_helper.ensures.0;
       asked = IfOk-from_err c.from_residual-in_err-constrain_by_helper.result _ c.from_residual-in_err-constrain_by_helper.ensures.0;
-      refusal = IfErr-of c.from_residual-in_err-constrain_by_helper.result _ _ c.from_residual-in_err-constrain_by_helper.ensures.1 c.in_err-constrain_by_helper.ensures.refusal;
+      refusal = IfErr-of c.from_residual-in_err-constrain_by_helper.result _ _ c.from_residual-in_err-constrain_by_helper.ensures.1
+          c.in_err-constrain_by_helper.ensures.refusal;
     }
 
 pub returns : goal.returns
@@ -162,4 +165,5 @@ pub constrain_each-requires-clause-forbidden : goal.constrain_each-requires-clau
 constrain_each-requires-clause-forbidden g c = c.non_matching-forbidden.ensures (g.D.Interner.universe c.args.provider.now) c.fetch_non_matching.ensures.is_true
 
 pub constrain_by_helper-requires-clause-forbidden : goal.constrain_by_helper-requires-clause-forbidden
-constrain_by_helper-requires-clause-forbidden g c = c.non_matching-forbidden.ensures (g.D.Interner.universe c.args.provider.now) c.fetch_non_matching.ensures.is_true
+constrain_by_helper-requires-clause-forbidden g c =
+    c.non_matching-forbidden.ensures (g.D.Interner.universe c.args.provider.now) c.fetch_non_matching.ensures.is_true

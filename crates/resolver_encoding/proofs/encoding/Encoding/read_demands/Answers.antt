@@ -140,7 +140,8 @@ returns-in_err-read_requirements g c =
       is_true = c.read_requirements.ensures.is_true;
       step = IfOk-from_err c.from_residual-in_err-read_requirements.result _ c.from_residual-in_err-read_requirements.ensures.0;
       read = IfOk-from_err c.from_residual-in_err-read_requirements.result _ c.from_residual-in_err-read_requirements.ensures.0;
-      refusal = IfErr-of c.from_residual-in_err-read_requirements.result _ _ c.from_residual-in_err-read_requirements.ensures.1 c.in_err-read_requirements.ensures.refusal;
+      refusal = IfErr-of c.from_residual-in_err-read_requirements.result _ _ c.from_residual-in_err-read_requirements.ensures.1
+          c.in_err-read_requirements.ensures.refusal;
     }
 
 pub returns-in_err-read_constraints : goal.returns-in_err-read_constraints
@@ -181,7 +182,8 @@ returns-in_err-read_constraints g c =
       is_true = c.read_constraints.ensures.is_true;
       step = IfOk-from_err c.from_residual-in_err-read_constraints.result _ c.from_residual-in_err-read_constraints.ensures.0;
       read = IfOk-from_err c.from_residual-in_err-read_constraints.result _ c.from_residual-in_err-read_constraints.ensures.0;
-      refusal = IfErr-of c.from_residual-in_err-read_constraints.result _ _ c.from_residual-in_err-read_constraints.ensures.1 c.in_err-read_constraints.ensures.refusal;
+      refusal = IfErr-of c.from_residual-in_err-read_constraints.result _ _ c.from_residual-in_err-read_constraints.ensures.1
+          c.in_err-read_constraints.ensures.refusal;
     }
 
 pub returns : goal.returns
@@ -200,7 +202,8 @@ returns g c =
           let Demanded = IsDemanded u set demands in
           let Defers = IsUnmet u set by in
           let asked = IsAskStep-trans u Demanded Premise _ _ _
-          (IsAskStep-weaker u Plainly Demanded (λ n h. inl (plainly_called u set rs n h)) (λ root. ⊤) Premise (λ root _. tt) _ _ c.in_ok-ask_plain_each.ensures.step)
+          (IsAskStep-weaker u Plainly Demanded (λ n h. inl (plainly_called u set rs n h)) (λ root. ⊤) Premise (λ root _. tt) _ _
+          c.in_ok-ask_plain_each.ensures.step)
           (IsAskStep-weaker u (IsNamedBy u vs) Demanded (λ n h. inr h) (λ root. ⊤) Premise (λ root _. tt) _ _ c.in_ok-ask_each.ensures.step) in
           let required = IsReadStep-trans u Defers Demanded Premise _ _ _ (IsReadStep-of u Defers Demanded Premise _ _ asked)
           (IsReadStep-weaker u Defers (IsCalledByEach u set rs) Demanded (λ n h. inl h) (λ root. All (λ r. HasRequirement u by r root) rs) Premise (λ root same.

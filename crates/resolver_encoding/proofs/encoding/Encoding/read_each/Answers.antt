@@ -76,7 +76,8 @@ loop-place-preserved g c = let u = g.D.Interner.universe c.args.provider.now in
     }
 
 pub returns-then-before-len-clause-here : goal.returns-then-before-len-clause-here
-returns-then-before-len-clause-here g c = AreEach-done (Contains (notes_in c.loop-place.self).read) c.args.chosen.now.keys c.args.from c.loop-place.place (omega arith) c.loop-place.invariant.read
+returns-then-before-len-clause-here g c =
+    AreEach-done (Contains (notes_in c.loop-place.self).read) c.args.chosen.now.keys c.args.from c.loop-place.place (omega arith) c.loop-place.invariant.read
 
 pub returns-then-before-len-clause-fit : goal.returns-then-before-len-clause-fit
 returns-then-before-len-clause-fit g c = λ known. seen_fit g.S.PartialEq.eq g.met.D.Interner.solvables_are_values g.met.S.Eq.laws c.loop-place.self.read.keys

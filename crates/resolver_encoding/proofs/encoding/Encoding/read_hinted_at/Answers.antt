@@ -27,7 +27,8 @@ returns-in_err-read_candidates g c =
       reading = IfOk-from_err c.from_residual-in_err-read_candidates.result _ c.from_residual-in_err-read_candidates.ensures.0;
       here = IfOk-from_err c.from_residual-in_err-read_candidates.result _ c.from_residual-in_err-read_candidates.ensures.0;
       more = IfOk-from_err c.from_residual-in_err-read_candidates.result _ c.from_residual-in_err-read_candidates.ensures.0;
-      refusal = IfErr-of c.from_residual-in_err-read_candidates.result _ _ c.from_residual-in_err-read_candidates.ensures.1 c.in_err-read_candidates.ensures.refusal;
+      refusal = IfErr-of c.from_residual-in_err-read_candidates.result _ _ c.from_residual-in_err-read_candidates.ensures.1
+          c.in_err-read_candidates.ensures.refusal;
     }
 
 pub returns : goal.returns

@@ -63,7 +63,8 @@ returns-in_err-append g c =
       reading = IfOk-from_err c.from_residual-in_err-append.result _ c.from_residual-in_err-append.ensures.0;
       here = IfOk-from_err c.from_residual-in_err-append.result _ c.from_residual-in_err-append.ensures.0;
       more = IfOk-from_err c.from_residual-in_err-append.result _ c.from_residual-in_err-append.ensures.0;
-      refusal = IfErr-of c.from_residual-in_err-append.result _ _ c.from_residual-in_err-append.ensures.1 (shortage_of_memory _ _ c.in_err-append.ensures.memory);
+      refusal = IfErr-of c.from_residual-in_err-append.result _ _ c.from_residual-in_err-append.ensures.1
+          (shortage_of_memory _ _ c.in_err-append.ensures.memory);
     }
 
 pub returns : goal.returns

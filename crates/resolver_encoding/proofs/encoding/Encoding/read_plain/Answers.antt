@@ -111,7 +111,8 @@ returns-in_err-encode_choices g c =
       is_true = c.encode_choices.ensures.is_true;
       step = IfOk-from_err c.from_residual-in_err-encode_choices.result _ c.from_residual-in_err-encode_choices.ensures.0;
       read = IfOk-from_err c.from_residual-in_err-encode_choices.result _ c.from_residual-in_err-encode_choices.ensures.0;
-      refusal = IfErr-of c.from_residual-in_err-encode_choices.result _ _ c.from_residual-in_err-encode_choices.ensures.1 c.in_err-encode_choices.ensures.refusal;
+      refusal = IfErr-of c.from_residual-in_err-encode_choices.result _ _ c.from_residual-in_err-encode_choices.ensures.1
+          c.in_err-encode_choices.ensures.refusal;
     }
 
 pub returns-then-len-lt-GATE_THRESHOLD : goal.returns-then-len-lt-GATE_THRESHOLD
@@ -122,7 +123,8 @@ returns-then-len-lt-GATE_THRESHOLD g c =
           let by = BySolvable c.args.requirer in
           let Called = IsWantedBy u r in
           let Premise = HasRequirement u by (record { condition = None; requirement = r }) in
-          IsAskStep-trans u Called Premise _ _ _ (IsAskStep-weaker u Called Called (λ n h. h) (λ root. ⊤) Premise (λ root asks. tt) _ _ c.in_ok-choices.ensures.step)
+          IsAskStep-trans u Called Premise _ _ _ (IsAskStep-weaker u Called Called (λ n h. h) (λ root. ⊤) Premise (λ root asks. tt) _ _
+          c.in_ok-choices.ensures.step)
           (IsAskStep-of u Called Premise _ _
           (IsStep-weaker u idle (IsTrueUnder u by _ r) Premise (λ root asks.
           (record { condition = None; requirement = r }, asks, refl, ap (map (matching u)) c.new-none.ensures.items)) _ _ c.in_ok-encode_choices.ensures.step));
@@ -142,7 +144,8 @@ returns-then-len-lt-GATE_THRESHOLD g c =
           let list = c.new-none.result.items in
           Brings-trans u Called Own old mid new (λ s h. c.in_ok-choices.ensures.step.called (to_see s) h) chosen
           (choices_brings u Own (IsHelped u by list) r mid new (bare_own u by demands list c.new-none.ensures.items) c.encode_choices.ensures.adds);
-      room = (let it = KeepsRoom-trans _ _ _ c.choose.ensures.room c.encode_choices.ensures.room in record { bounded = it.bounded; variables = it.variables; clauses = it.clauses });
+      room = (let it = KeepsRoom-trans _ _ _ c.choose.ensures.room c.encode_choices.ensures.room in
+          record { bounded = it.bounded; variables = it.variables; clauses = it.clauses });
       is_true = c.encode_choices.ensures.is_true;
       refusal = tt;
     }
@@ -208,7 +211,8 @@ returns g c =
           let r = c.args.requirement in
           let Called = IsWantedBy u r in
           let Premise = HasRequirement u (BySolvable c.args.requirer) (record { condition = None; requirement = r }) in
-          let made = IsAskStep-trans u Called (λ root. ⊤) _ _ _ c.in_ok-choices.ensures.step (IsAskStep-of u Called (λ root. ⊤) _ _ c.in_ok-make_gate.ensures.step) in
+          let made = IsAskStep-trans u Called (λ root. ⊤) _ _ _ c.in_ok-choices.ensures.step (IsAskStep-of u Called (λ root. ⊤) _ _
+          c.in_ok-make_gate.ensures.step) in
           IsAskStep-trans u Called Premise _ _ _ (IsAskStep-weaker u Called Called (λ n h. h) (λ root. ⊤) Premise (λ root asks. tt) _ _ made)
           (IsAskStep-of u Called Premise _ _ c.in_ok-imply_gate-2.ensures.step);
       read = let u = g.D.Interner.universe c.args.provider.now in
@@ -240,7 +244,8 @@ returns g c =
           Brings-trans u Called Own old made new (λ s h.
           c.in_ok-choices.ensures.step.called (to_see s) (let Has : List g.row.S.Denot → Type 0 = λ list. Contains list s in subst Has step.seen h)) gated
           (own_brings u Called Own (λ o. (o ≡ Gate r) ⊎ (o ≡ Solvable c.args.requirer)) made new (gate_own u c.args.requirer r) c.imply_gate-2.ensures.adds);
-      room = (let it = KeepsRoom-trans _ _ _ c.choose.ensures.room (KeepsRoom-trans _ _ _ c.make_gate.ensures.room c.imply_gate-2.ensures.room) in record { bounded = it.bounded; variables = it.variables; clauses = it.clauses });
+      room = (let it = KeepsRoom-trans _ _ _ c.choose.ensures.room (KeepsRoom-trans _ _ _ c.make_gate.ensures.room c.imply_gate-2.ensures.room) in
+          record { bounded = it.bounded; variables = it.variables; clauses = it.clauses });
       is_true = c.choose.ensures.is_true;
       refusal = tt;
     }

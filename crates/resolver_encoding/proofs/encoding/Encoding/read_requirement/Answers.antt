@@ -9,7 +9,8 @@ use Rattle.resolver_encoding.proofs.encoding.Encoding.read_requirement.Goals as 
 pub returns-in_err-read_plain-in-Some : goal.returns-in_err-read_plain-in-Some
 returns-in_err-read_plain-in-Some g c =
     record {
-      brings = plain_brings (g.D.Interner.universe c.args.provider.now) c.args.chosen.now.keys c.args.by c.in-Some.requirer c.args.requirement (notes_in c.args.self.now)
+      brings = plain_brings (g.D.Interner.universe c.args.provider.now) c.args.chosen.now.keys c.args.by c.in-Some.requirer c.args.requirement (notes_in
+          c.args.self.now)
           (notes_in c.read_plain.new.self) c.in-Some.ensures.0 c.in-Some.ensures.1 c.read_plain.ensures.brings;
       room = c.read_plain.ensures.room;
       is_true = c.read_plain.ensures.is_true;
@@ -27,7 +28,8 @@ returns-in_ok-read_plain-in-Some g c =
       read = let notes = notes_in c.read_plain.new.self in
           plain_has (g.D.Interner.universe c.args.provider.now) notes.kinds
           (IsLeft notes) c.args.by c.in-Some.requirer c.args.requirement c.in-Some.ensures.0 c.in_ok-read_plain-in-Some.ensures.read;
-      brings = plain_brings (g.D.Interner.universe c.args.provider.now) c.args.chosen.now.keys c.args.by c.in-Some.requirer c.args.requirement (notes_in c.args.self.now)
+      brings = plain_brings (g.D.Interner.universe c.args.provider.now) c.args.chosen.now.keys c.args.by c.in-Some.requirer c.args.requirement (notes_in
+          c.args.self.now)
           (notes_in c.read_plain.new.self) c.in-Some.ensures.0 c.in-Some.ensures.1 c.read_plain.ensures.brings;
       room = c.read_plain.ensures.room;
       is_true = c.read_plain.ensures.is_true;
@@ -42,7 +44,8 @@ returns-in_err-read_direct-in-None g c =
       is_true = c.read_direct.ensures.is_true;
       step = IfOk-from_err c.from_residual-in_err-read_direct-in-None.result _ c.from_residual-in_err-read_direct-in-None.ensures.0;
       read = IfOk-from_err c.from_residual-in_err-read_direct-in-None.result _ c.from_residual-in_err-read_direct-in-None.ensures.0;
-      refusal = IfErr-of c.from_residual-in_err-read_direct-in-None.result _ _ c.from_residual-in_err-read_direct-in-None.ensures.1 c.in_err-read_direct-in-None.ensures.refusal;
+      refusal = IfErr-of c.from_residual-in_err-read_direct-in-None.result _ _ c.from_residual-in_err-read_direct-in-None.ensures.1
+          c.in_err-read_direct-in-None.ensures.refusal;
     }
 
 pub returns-in_ok-read_direct-in-None : goal.returns-in_ok-read_direct-in-None

@@ -56,7 +56,8 @@ returns-in_err-fetch_dependencies g c =
       is_true = c.fetch_dependencies.ensures.is_true;
       step = IfOk-from_err c.from_residual.result _ c.from_residual.ensures.0;
       read = IfOk-from_err c.from_residual.result _ c.from_residual.ensures.0;
-      refusal = IfErr-stop c.from_residual.result (g.D.DependencyProvider.may_cancel c.args.provider.now) _ c.in_err-fetch_dependencies.field-0.0 c.from_residual.ensures.1 c.in_err-fetch_dependencies.ensures.refusal;
+      refusal = IfErr-stop c.from_residual.result (g.D.DependencyProvider.may_cancel c.args.provider.now) _
+          c.in_err-fetch_dependencies.field-0.0 c.from_residual.ensures.1 c.in_err-fetch_dependencies.ensures.refusal;
     }
 
 pub returns-in_err-requirements-in-Known : goal.returns-in_err-requirements-in-Known
@@ -110,7 +111,8 @@ returns-in_err-forbid_unknown-in-Unknown g c =
       is_true = c.fetch_dependencies.ensures.is_true;
       step = IfOk-from_err c.from_residual-in_err-forbid_unknown-in-Unknown.result _ c.from_residual-in_err-forbid_unknown-in-Unknown.ensures.0;
       read = IfOk-from_err c.from_residual-in_err-forbid_unknown-in-Unknown.result _ c.from_residual-in_err-forbid_unknown-in-Unknown.ensures.0;
-      refusal = IfErr-of c.from_residual-in_err-forbid_unknown-in-Unknown.result _ _ c.from_residual-in_err-forbid_unknown-in-Unknown.ensures.1 c.in_err-forbid_unknown-in-Unknown.ensures.refusal;
+      refusal = IfErr-of c.from_residual-in_err-forbid_unknown-in-Unknown.result _ _ c.from_residual-in_err-forbid_unknown-in-Unknown.ensures.1
+          c.in_err-forbid_unknown-in-Unknown.ensures.refusal;
     }
 
 pub returns-in_err-read_demands-in-Known : goal.returns-in_err-read_demands-in-Known
@@ -137,7 +139,8 @@ returns-in_err-read_demands-in-Known g c =
       is_true = c.read_demands.ensures.is_true;
       step = IfOk-from_err c.from_residual-in_err-read_demands-in-Known.result _ c.from_residual-in_err-read_demands-in-Known.ensures.0;
       read = IfOk-from_err c.from_residual-in_err-read_demands-in-Known.result _ c.from_residual-in_err-read_demands-in-Known.ensures.0;
-      refusal = IfErr-of c.from_residual-in_err-read_demands-in-Known.result _ _ c.from_residual-in_err-read_demands-in-Known.ensures.1 c.in_err-read_demands-in-Known.ensures.refusal;
+      refusal = IfErr-of c.from_residual-in_err-read_demands-in-Known.result _ _ c.from_residual-in_err-read_demands-in-Known.ensures.1
+          c.in_err-read_demands-in-Known.ensures.refusal;
     }
 
 pub returns-in_ok-forbid_unknown-in-Unknown : goal.returns-in_ok-forbid_unknown-in-Unknown
@@ -178,7 +181,8 @@ returns-in_ok-read_demands-in-Known g c =
           λ i. record { requirements = copied_requirements i; constraints = copied_constraints i } in
           let same : demands_of (u.needs c.args.solvable) ≡ demands = demands_known _ _ answer ∙ sym copied in
           let Demanded : Call g.row.N.Denot g.row.S.Denot → Demands → Type 0 = λ n d. IsDemanded u set d n in
-          IsReadStep-weaker u (IsUnmet u set (Solvable c.args.solvable)) (IsDemanded u set demands) (IsDemanded u set (demands_of (u.needs c.args.solvable))) (λ n h.
+          IsReadStep-weaker u (IsUnmet u set (Solvable c.args.solvable)) (IsDemanded u set demands) (IsDemanded u set (demands_of (u.needs c.args.solvable)))
+          (λ n h.
           subst (Demanded n) (sym same) h)
           (λ root. demands_by u root (Solvable c.args.solvable) ≡ demands) (λ root. ⊤) (λ root _. same) _ _ c.in_ok-read_demands-in-Known.ensures.step;
       brings = let u = g.D.Interner.universe c.args.provider.now in
@@ -219,4 +223,5 @@ pub dependencies-requires-clause-has : goal.dependencies-requires-clause-has
 dependencies-requires-clause-has g c = c.in_ok-fetch_dependencies.ensures.has
 
 pub forbid_unknown-requires-clause-unknown : goal.forbid_unknown-requires-clause-unknown
-forbid_unknown-requires-clause-unknown g c = sym (rw c.in-Unknown.is at (c.dependencies.ensures (g.D.Interner.universe c.args.provider.now) c.fetch_dependencies.ensures.is_true))
+forbid_unknown-requires-clause-unknown g c =
+    sym (rw c.in-Unknown.is at (c.dependencies.ensures (g.D.Interner.universe c.args.provider.now) c.fetch_dependencies.ensures.is_true))

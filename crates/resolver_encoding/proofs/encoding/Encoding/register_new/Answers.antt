@@ -38,7 +38,8 @@ returns-in_err-intern g c =
       asked = IfOk-from_err c.from_residual.result _ c.from_residual.ensures.0;
       only = IfOk-from_err c.from_residual.result _ c.from_residual.ensures.0;
       requirements = IfOk-from_err c.from_residual.result _ c.from_residual.ensures.0;
-      refusal = IfErr-of c.from_residual.result _ _ c.from_residual.ensures.1 (shortage_at_limit _ _ (λ ids. let full = c.in_err-intern.ensures.ids ids in inl (full.count, full.distinct)));
+      refusal = IfErr-of c.from_residual.result _ _ c.from_residual.ensures.1
+          (shortage_at_limit _ _ (λ ids. let full = c.in_err-intern.ensures.ids ids in inl (full.count, full.distinct)));
     }
 
 pub returns-in_err-begin_digit : goal.returns-in_err-begin_digit
@@ -68,7 +69,8 @@ returns-in_err-add_code g c =
           (AddsSuch-weaker _ _ (λ o is. own_code _ _ _ _ o (inl is)) _ _
           (AddsSuch-push _ _ _ c.intern.ensures.added)) c.begin_digit.ensures.adds.origins c.begin_digit.ensures.adds.deferred)
           (AddsOnly-weaker _ _ (own_code _ _ _ _) _ _ c.add_code.ensures.adds)));
-      room = (let one = c.begin_digit.ensures.room in let two = c.add_code.ensures.room in record { bounded = two.bounded; variables = two.variables ∙ one.variables ∙ c.intern.ensures.limit; clauses = two.clauses ∙ one.clauses });
+      room = (let one = c.begin_digit.ensures.room in let two = c.add_code.ensures.room in
+          record { bounded = two.bounded; variables = two.variables ∙ one.variables ∙ c.intern.ensures.limit; clauses = two.clauses ∙ one.clauses });
       step = IfOk-from_err c.from_residual-in_err-add_code.result _ c.from_residual-in_err-add_code.ensures.0;
       seen = IfOk-from_err c.from_residual-in_err-add_code.result _ c.from_residual-in_err-add_code.ensures.0;
       asked = IfOk-from_err c.from_residual-in_err-add_code.result _ c.from_residual-in_err-add_code.ensures.0;
@@ -87,7 +89,8 @@ returns-in_err-add g c =
           (AddsOnly-then-such _ _ _ _ (AddsSuch-weaker _ _ (λ o is. own_code _ _ _ _ o (inl is)) _ _
           (AddsSuch-push _ _ _ c.intern.ensures.added)) c.begin_digit.ensures.adds.origins c.begin_digit.ensures.adds.deferred)
           (AddsOnly-weaker _ _ (own_code _ _ _ _) _ _ c.add_code.ensures.adds)) refl refl));
-      room = (let one = c.begin_digit.ensures.room in let two = c.add_code.ensures.room in record { bounded = two.bounded; variables = two.variables ∙ one.variables ∙ c.intern.ensures.limit; clauses = two.clauses ∙ one.clauses });
+      room = (let one = c.begin_digit.ensures.room in let two = c.add_code.ensures.room in
+          record { bounded = two.bounded; variables = two.variables ∙ one.variables ∙ c.intern.ensures.limit; clauses = two.clauses ∙ one.clauses });
       step = IfOk-from_err c.from_residual-in_err-add.result _ c.from_residual-in_err-add.ensures.0;
       seen = IfOk-from_err c.from_residual-in_err-add.result _ c.from_residual-in_err-add.ensures.0;
       asked = IfOk-from_err c.from_residual-in_err-add.result _ c.from_residual-in_err-add.ensures.0;
@@ -106,13 +109,15 @@ returns-in_err-append g c =
           (AddsOnly-then-such _ _ _ _ (AddsSuch-weaker _ _ (λ o is. own_code _ _ _ _ o (inl is)) _ _
           (AddsSuch-push _ _ _ c.intern.ensures.added)) c.begin_digit.ensures.adds.origins c.begin_digit.ensures.adds.deferred)
           (AddsOnly-weaker _ _ (own_code _ _ _ _) _ _ c.add_code.ensures.adds)) refl refl));
-      room = (let one = c.begin_digit.ensures.room in let two = c.add_code.ensures.room in record { bounded = two.bounded; variables = two.variables ∙ one.variables ∙ c.intern.ensures.limit; clauses = two.clauses ∙ one.clauses });
+      room = (let one = c.begin_digit.ensures.room in let two = c.add_code.ensures.room in
+          record { bounded = two.bounded; variables = two.variables ∙ one.variables ∙ c.intern.ensures.limit; clauses = two.clauses ∙ one.clauses });
       step = IfOk-from_err c.from_residual-in_err-append.result _ c.from_residual-in_err-append.ensures.0;
       seen = IfOk-from_err c.from_residual-in_err-append.result _ c.from_residual-in_err-append.ensures.0;
       asked = IfOk-from_err c.from_residual-in_err-append.result _ c.from_residual-in_err-append.ensures.0;
       only = IfOk-from_err c.from_residual-in_err-append.result _ c.from_residual-in_err-append.ensures.0;
       requirements = IfOk-from_err c.from_residual-in_err-append.result _ c.from_residual-in_err-append.ensures.0;
-      refusal = IfErr-of c.from_residual-in_err-append.result _ _ c.from_residual-in_err-append.ensures.1 (shortage_of_memory _ _ c.in_err-append.ensures.memory);
+      refusal = IfErr-of c.from_residual-in_err-append.result _ _ c.from_residual-in_err-append.ensures.1
+          (shortage_of_memory _ _ c.in_err-append.ensures.memory);
     }
 
 pub returns : goal.returns
@@ -134,9 +139,11 @@ returns g c =
           IsAskStep-trans u (IsSeeing s) (λ root. ⊤) _ _ _
           (IsAskStep-of u (IsSeeing s) (λ root. ⊤) _ _
           (IsStep-origins u idle (λ root. ⊤) old _ (origins_in c.intern.new.self) (limit_in c.intern.new.self) grows c.intern.ensures.limit refl))
-          (IsStep-seen u g.N.PartialEq.eq g.S.PartialEq.eq g.met.D.Interner.names_are_values g.met.D.Interner.solvables_are_values n k s _ mid _ c.add.new.self list
+          (IsStep-seen u g.N.PartialEq.eq g.S.PartialEq.eq g.met.D.Interner.names_are_values g.met.D.Interner.solvables_are_values n k s _ mid _
+          c.add.new.self list
           (sym c.solvable_name-name.ensures) c.requires.absent
-          step same_groups (code.seen ∙ begun.seen) (λ i. record mid { seen = c.in_ok-append.ensures.keys i; groups = c.add.new.self }) c.in_ok-add.ensures.added
+          step same_groups (code.seen ∙ begun.seen) (λ i. record mid { seen = c.in_ok-append.ensures.keys i; groups = c.add.new.self })
+          c.in_ok-add.ensures.added
           (place_in mid.origins _ (Solvable s) (step.origins.kept _ (Solvable s) c.in_ok-intern.ensures.here))
           c.named-number.ensures.each_at c.named-number.ensures.every_at refl code.code
           (λ i begins sound j t at. code.step.kinds _ (begun.begun i begins sound j t at)));
@@ -159,7 +166,8 @@ returns g c =
           (AddsOnly-then-such _ _ _ _ (AddsSuch-weaker _ _ (λ o is. own_code _ _ _ _ o (inl is)) _ _
           (AddsSuch-push _ _ _ c.intern.ensures.added)) c.begin_digit.ensures.adds.origins c.begin_digit.ensures.adds.deferred)
           (AddsOnly-weaker _ _ (own_code _ _ _ _) _ _ c.add_code.ensures.adds)) refl refl));
-      room = (let one = c.begin_digit.ensures.room in let two = c.add_code.ensures.room in record { bounded = two.bounded; variables = two.variables ∙ one.variables ∙ c.intern.ensures.limit; clauses = two.clauses ∙ one.clauses });
+      room = (let one = c.begin_digit.ensures.room in let two = c.add_code.ensures.room in
+          record { bounded = two.bounded; variables = two.variables ∙ one.variables ∙ c.intern.ensures.limit; clauses = two.clauses ∙ one.clauses });
       requirements = c.in_ok-add_code.ensures.requirements ∙ c.in_ok-begin_digit.ensures.requirements;
       refusal = tt;
     }

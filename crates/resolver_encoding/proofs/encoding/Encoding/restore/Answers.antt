@@ -47,7 +47,8 @@ returns-in_err-fetch_candidates g c =
       plain = IfOk-from_err c.from_residual.result _ c.from_residual.ensures.0;
       restored = IfOk-from_err c.from_residual.result _ c.from_residual.ensures.0;
       adds = AddsOnly-equal _ _ _ refl refl;
-      refusal = IfErr-stop c.from_residual.result (g.D.DependencyProvider.may_cancel c.args.provider.now) _ c.in_err-fetch_candidates.field-0.0 c.from_residual.ensures.1 c.in_err-fetch_candidates.ensures.refusal;
+      refusal = IfErr-stop c.from_residual.result (g.D.DependencyProvider.may_cancel c.args.provider.now) _
+          c.in_err-fetch_candidates.field-0.0 c.from_residual.ensures.1 c.in_err-fetch_candidates.ensures.refusal;
     }
 
 pub returns-in_err-restore_lock : goal.returns-in_err-restore_lock
@@ -84,7 +85,8 @@ returns-in_err-restore_exclusions g c =
       step = IfOk-from_err c.from_residual-in_err-restore_exclusions.result _ c.from_residual-in_err-restore_exclusions.ensures.0;
       plain = IfOk-from_err c.from_residual-in_err-restore_exclusions.result _ c.from_residual-in_err-restore_exclusions.ensures.0;
       restored = IfOk-from_err c.from_residual-in_err-restore_exclusions.result _ c.from_residual-in_err-restore_exclusions.ensures.0;
-      refusal = IfErr-of c.from_residual-in_err-restore_exclusions.result _ _ c.from_residual-in_err-restore_exclusions.ensures.1 c.in_err-restore_exclusions.ensures.refusal;
+      refusal = IfErr-of c.from_residual-in_err-restore_exclusions.result _ _ c.from_residual-in_err-restore_exclusions.ensures.1
+          c.in_err-restore_exclusions.ensures.refusal;
     }
 
 pub returns : goal.returns
@@ -128,10 +130,15 @@ pub restore_lock-requires-clause-asked : goal.restore_lock-requires-clause-asked
 restore_lock-requires-clause-asked g c = c.if-not-is_among.ensures
 
 pub restore_lock-requires-clause-listed : goal.restore_lock-requires-clause-listed
-restore_lock-requires-clause-listed g c = (let answer = c.candidates-package.ensures (g.D.Interner.universe c.args.provider.now) c.fetch_candidates.ensures.is_true in c.deref.ensures.value ∙ ap (λ p. p.listed) answer)
+restore_lock-requires-clause-listed g c =
+    (let answer = c.candidates-package.ensures (g.D.Interner.universe c.args.provider.now) c.fetch_candidates.ensures.is_true in
+    c.deref.ensures.value ∙ ap (λ p. p.listed) answer)
 
 pub restore_lock-requires-clause-locked : goal.restore_lock-requires-clause-locked
-restore_lock-requires-clause-locked g c = (let answer = c.candidates-package.ensures (g.D.Interner.universe c.args.provider.now) c.fetch_candidates.ensures.is_true in ap (λ p. p.locked) answer)
+restore_lock-requires-clause-locked g c =
+    (let answer = c.candidates-package.ensures (g.D.Interner.universe c.args.provider.now) c.fetch_candidates.ensures.is_true in ap (λ p. p.locked) answer)
 
 pub restore_exclusions-requires-clause-excluded : goal.restore_exclusions-requires-clause-excluded
-restore_exclusions-requires-clause-excluded g c = (let answer = c.candidates-package.ensures (g.D.Interner.universe c.args.provider.now) c.fetch_candidates.ensures.is_true in c.deref-2.ensures.value ∙ ap (λ p. p.excluded) answer)
+restore_exclusions-requires-clause-excluded g c =
+    (let answer = c.candidates-package.ensures (g.D.Interner.universe c.args.provider.now) c.fetch_candidates.ensures.is_true in
+    c.deref-2.ensures.value ∙ ap (λ p. p.excluded) answer)
