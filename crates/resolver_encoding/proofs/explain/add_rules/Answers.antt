@@ -133,13 +133,3 @@ returns-in_err-exclude-in-Excluded g c =
       refusal = IfErr-of c.from_residual-in_err-exclude-in-Excluded.result _ _ c.from_residual-in_err-exclude-in-Excluded.ensures.1
           c.in_err-exclude-in-Excluded.ensures.memory;
     }
-
-pub returns-in_ok-exclude-in-Excluded : goal.returns-in_ok-exclude-in-Excluded
-returns-in_ok-exclude-in-Excluded g c =
-    record {
-      is_true = c.requires.is_true;
-      refusal = tt;
-      added = let Adds : ClauseKind g.row.D-NameId.Denot g.row.D-SolvableId.Denot → Type 0 =
-          λ k. AddsRules (StatesRule (g.D.Interner.universe c.args.provider.now) c.args.sources.now k) c.args.listing.now c.exclude.new.self in
-          subst Adds (sym c.in-Excluded.is) c.in_ok-exclude-in-Excluded.ensures.added;
-    }
