@@ -6,6 +6,7 @@ pub mod ListingLemmas
 pub mod ClauseLemmas
 pub mod EncodingLemmas
 pub mod RoomLemmas
+pub mod RefusalLemmas
 pub mod NoteLemmas
 pub mod SeeLemmas
 pub mod RequirementLemmas

@@ -8,41 +8,128 @@ use Rattle.resolver_encoding.specs.Groups.{IsNamed}
 use Rattle.resolver_encoding.specs.Listing.{AddsRules, StatesRule, SomeOf}
 use Rattle.resolver_clause_store.specs.Statements.{constrains, requires}
 use Rattle.resolver_encoding.proofs.ListingLemmas.{added_same}
+use Rattle.std.proofs.lemmas.Result.{IfOk-from_err}
+use Rattle.resolver_encoding.proofs.RefusalLemmas.{IfErr-of}
 use Rattle.resolver_encoding.proofs.explain.add_rules.Goals as goal
 
-pub returns-in_ok-add_requirement-in-Requires-clause-added : goal.returns-in_ok-add_requirement-in-Requires-clause-added
-returns-in_ok-add_requirement-in-Requires-clause-added g c =
-    let u = g.D.Interner.universe c.args.provider.now in
-    let Adds : ClauseKind g.row.D-NameId.Denot g.row.D-SolvableId.Denot → Type 0 =
-    λ k. AddsRules (StatesRule u c.args.sources.now k) c.args.listing.now c.add_requirement.new.listing in
-    let Of : List VersionSetId → Type 0 =
-    λ list. AddsRules (λ st. st ≡ requires c.in-Requires.parent c.in-Requires.requirement (requirement_candidates u c.in-Requires.requirement)
-    (map (matching u) list)) c.args.listing.now c.add_requirement.new.listing in
-    subst Adds (sym c.in-Requires.is) (subst Of c.as_slice-disjunct.ensures c.in_ok-add_requirement-in-Requires.ensures.added)
+pub returns-in_err-add_requirement-in-Requires : goal.returns-in_err-add_requirement-in-Requires
+returns-in_err-add_requirement-in-Requires g c =
+    record {
+      is_true = c.add_requirement.ensures.is_true;
+      added = IfOk-from_err c.from_residual.result _ c.from_residual.ensures.0;
+      refusal = IfErr-of c.from_residual.result _ _ c.from_residual.ensures.1 c.in_err-add_requirement-in-Requires.ensures.refusal;
+    }
 
-pub returns-in_ok-add_gate-in-GateRequires-clause-added : goal.returns-in_ok-add_gate-in-GateRequires-clause-added
-returns-in_ok-add_gate-in-GateRequires-clause-added g c =
-    let u = g.D.Interner.universe c.args.provider.now in
-    let r = c.in-GateRequires.requirement in
-    let Adds : ClauseKind g.row.D-NameId.Denot g.row.D-SolvableId.Denot → Type 0 =
-    λ k. AddsRules (StatesRule u c.args.sources.now k) c.args.listing.now c.add_gate.new.listing in
-    let named = IsNamed c.args.sources.now.gates r in
-    subst Adds (sym c.in-GateRequires.is) (added_same c.args.listing.now c.add_gate.new.listing
-    (SomeOf c.requirers.result.now (λ s st. st ≡ requires (BySolvable s) r (requirement_candidates u r) [])) _
-    (λ st h. (h.0, All-contains named c.requirers.result.now h.0 c.requirers.ensures.each h.1, h.2))
-    (λ st h. (h.0, c.requirers.ensures.every c.requires.groups h.0 h.1, h.2))
-    c.in_ok-add_gate-in-GateRequires.ensures.added)
+pub returns-in_ok-add_requirement-in-Requires : goal.returns-in_ok-add_requirement-in-Requires
+returns-in_ok-add_requirement-in-Requires g c =
+    record {
+      added = let u = g.D.Interner.universe c.args.provider.now in
+          let Adds : ClauseKind g.row.D-NameId.Denot g.row.D-SolvableId.Denot → Type 0 =
+          λ k. AddsRules (StatesRule u c.args.sources.now k) c.args.listing.now c.add_requirement.new.listing in
+          let Of : List VersionSetId → Type 0 =
+          λ list. AddsRules (λ st. st ≡ requires c.in-Requires.parent c.in-Requires.requirement (requirement_candidates u c.in-Requires.requirement)
+          (map (matching u) list)) c.args.listing.now c.add_requirement.new.listing in
+          subst Adds (sym c.in-Requires.is) (subst Of c.as_slice-disjunct.ensures c.in_ok-add_requirement-in-Requires.ensures.added);
+      is_true = c.add_requirement.ensures.is_true;
+      refusal = tt;
+    }
 
-pub returns-in_ok-constrain_each-in-ConstrainsParent-clause-added : goal.returns-in_ok-constrain_each-in-ConstrainsParent-clause-added
-returns-in_ok-constrain_each-in-ConstrainsParent-clause-added g c =
-    let u = g.D.Interner.universe c.args.provider.now in
-    let by = c.in-ConstrainsParent.parent in
-    let v = c.in-ConstrainsParent.version_set in
-    let Adds : ClauseKind g.row.D-NameId.Denot g.row.D-SolvableId.Denot → Type 0 =
-    λ k. AddsRules (StatesRule u c.args.sources.now k) c.args.listing.now c.constrain_each.new.listing in
-    let named = IsNamed c.args.sources.now.helpers v in
-    subst Adds (sym c.in-ConstrainsParent.is) (added_same c.args.listing.now c.constrain_each.new.listing
-    (SomeOf c.excluded.result.now (λ s st. st ≡ constrains by v s)) _
-    (λ st h. (h.0, All-contains named c.excluded.result.now h.0 c.excluded.ensures.each h.1, h.2))
-    (λ st h. (h.0, c.excluded.ensures.every c.requires.groups h.0 h.1, h.2))
-    c.in_ok-constrain_each-in-ConstrainsParent.ensures.added)
+pub returns-in_err-add_gate-in-GateRequires : goal.returns-in_err-add_gate-in-GateRequires
+returns-in_err-add_gate-in-GateRequires g c =
+    record {
+      is_true = c.add_gate.ensures.is_true;
+      added = IfOk-from_err c.from_residual-in_err-add_gate-in-GateRequires.result _ c.from_residual-in_err-add_gate-in-GateRequires.ensures.0;
+      refusal = IfErr-of c.from_residual-in_err-add_gate-in-GateRequires.result _ _ c.from_residual-in_err-add_gate-in-GateRequires.ensures.1
+          c.in_err-add_gate-in-GateRequires.ensures.refusal;
+    }
+
+pub returns-in_ok-add_gate-in-GateRequires : goal.returns-in_ok-add_gate-in-GateRequires
+returns-in_ok-add_gate-in-GateRequires g c =
+    record {
+      added = let u = g.D.Interner.universe c.args.provider.now in
+          let r = c.in-GateRequires.requirement in
+          let Adds : ClauseKind g.row.D-NameId.Denot g.row.D-SolvableId.Denot → Type 0 =
+          λ k. AddsRules (StatesRule u c.args.sources.now k) c.args.listing.now c.add_gate.new.listing in
+          let named = IsNamed c.args.sources.now.gates r in
+          subst Adds (sym c.in-GateRequires.is) (added_same c.args.listing.now c.add_gate.new.listing
+          (SomeOf c.requirers.result.now (λ s st. st ≡ requires (BySolvable s) r (requirement_candidates u r) [])) _
+          (λ st h. (h.0, All-contains named c.requirers.result.now h.0 c.requirers.ensures.each h.1, h.2))
+          (λ st h. (h.0, c.requirers.ensures.every c.requires.groups h.0 h.1, h.2))
+          c.in_ok-add_gate-in-GateRequires.ensures.added);
+      is_true = c.add_gate.ensures.is_true;
+      refusal = tt;
+    }
+
+pub returns-in_err-constrain-in-Constrains : goal.returns-in_err-constrain-in-Constrains
+returns-in_err-constrain-in-Constrains g c =
+    record {
+      is_true = c.requires.is_true;
+      added = IfOk-from_err c.from_residual-in_err-constrain-in-Constrains.result _ c.from_residual-in_err-constrain-in-Constrains.ensures.0;
+      refusal = IfErr-of c.from_residual-in_err-constrain-in-Constrains.result _ _ c.from_residual-in_err-constrain-in-Constrains.ensures.1
+          c.in_err-constrain-in-Constrains.ensures.memory;
+    }
+
+pub returns-in_ok-constrain-in-Constrains : goal.returns-in_ok-constrain-in-Constrains
+returns-in_ok-constrain-in-Constrains g c =
+    record {
+      is_true = c.requires.is_true;
+      refusal = tt;
+      added = let Adds : ClauseKind g.row.D-NameId.Denot g.row.D-SolvableId.Denot → Type 0 =
+          λ k. AddsRules (StatesRule (g.D.Interner.universe c.args.provider.now) c.args.sources.now k) c.args.listing.now c.constrain.new.self in
+          subst Adds (sym c.in-Constrains.is) c.in_ok-constrain-in-Constrains.ensures.added;
+    }
+
+pub returns-in_err-constrain_each-in-ConstrainsParent : goal.returns-in_err-constrain_each-in-ConstrainsParent
+returns-in_err-constrain_each-in-ConstrainsParent g c =
+    record {
+      is_true = c.requires.is_true;
+      added = IfOk-from_err c.from_residual-in_err-constrain_each-in-ConstrainsParent.result _
+          c.from_residual-in_err-constrain_each-in-ConstrainsParent.ensures.0;
+      refusal = IfErr-of c.from_residual-in_err-constrain_each-in-ConstrainsParent.result _ _
+          c.from_residual-in_err-constrain_each-in-ConstrainsParent.ensures.1 c.in_err-constrain_each-in-ConstrainsParent.ensures.memory;
+    }
+
+pub returns-in_ok-constrain_each-in-ConstrainsParent : goal.returns-in_ok-constrain_each-in-ConstrainsParent
+returns-in_ok-constrain_each-in-ConstrainsParent g c =
+    record {
+      added = let u = g.D.Interner.universe c.args.provider.now in
+          let by = c.in-ConstrainsParent.parent in
+          let v = c.in-ConstrainsParent.version_set in
+          let Adds : ClauseKind g.row.D-NameId.Denot g.row.D-SolvableId.Denot → Type 0 =
+          λ k. AddsRules (StatesRule u c.args.sources.now k) c.args.listing.now c.constrain_each.new.listing in
+          let named = IsNamed c.args.sources.now.helpers v in
+          subst Adds (sym c.in-ConstrainsParent.is) (added_same c.args.listing.now c.constrain_each.new.listing
+          (SomeOf c.excluded.result.now (λ s st. st ≡ constrains by v s)) _
+          (λ st h. (h.0, All-contains named c.excluded.result.now h.0 c.excluded.ensures.each h.1, h.2))
+          (λ st h. (h.0, c.excluded.ensures.every c.requires.groups h.0 h.1, h.2))
+          c.in_ok-constrain_each-in-ConstrainsParent.ensures.added);
+      is_true = c.requires.is_true;
+      refusal = tt;
+    }
+
+pub returns-in_err-lock-in-Lock : goal.returns-in_err-lock-in-Lock
+returns-in_err-lock-in-Lock g c =
+    record {
+      is_true = c.requires.is_true;
+      added = IfOk-from_err c.from_residual-in_err-lock-in-Lock.result _ c.from_residual-in_err-lock-in-Lock.ensures.0;
+      refusal = IfErr-of c.from_residual-in_err-lock-in-Lock.result _ _ c.from_residual-in_err-lock-in-Lock.ensures.1 c.in_err-lock-in-Lock.ensures.memory;
+    }
+
+pub returns-in_ok-lock-in-Lock : goal.returns-in_ok-lock-in-Lock
+returns-in_ok-lock-in-Lock g c =
+    record {
+      is_true = c.requires.is_true;
+      refusal = tt;
+      added = let Adds : ClauseKind g.row.D-NameId.Denot g.row.D-SolvableId.Denot → Type 0 =
+          λ k. AddsRules (StatesRule (g.D.Interner.universe c.args.provider.now) c.args.sources.now k) c.args.listing.now c.lock.new.self in
+          subst Adds (sym c.in-Lock.is) c.in_ok-lock-in-Lock.ensures.added;
+    }
+
+pub returns-in_err-exclude-in-Excluded : goal.returns-in_err-exclude-in-Excluded
+returns-in_err-exclude-in-Excluded g c =
+    record {
+      is_true = c.requires.is_true;
+      added = IfOk-from_err c.from_residual-in_err-exclude-in-Excluded.result _ c.from_residual-in_err-exclude-in-Excluded.ensures.0;
+      refusal = IfErr-of c.from_residual-in_err-exclude-in-Excluded.result _ _ c.from_residual-in_err-exclude-in-Excluded.ensures.1
+          c.in_err-exclude-in-Excluded.ensures.memory;
+    }

@@ -10,31 +10,80 @@ use Rattle.resolver_encoding.specs.Notes.{notes_in}
 use Rattle.resolver_encoding.proofs.EncodingLemmas.{IsStep-trans}
 use Rattle.resolver_encoding.proofs.NoteLemmas.{IsStep-helped}
 use Rattle.resolver_encoding.proofs.LedLemmas.{AddsOnly-same_as}
+use Rattle.std.proofs.lemmas.Result.{IfOk-from_err}
+use Rattle.resolver_encoding.proofs.RefusalLemmas.{IfErr-of}
+use Rattle.resolver_encoding.proofs.RefusalLemmas.{IfErr-stop}
+use Rattle.resolver_encoding.proofs.RefusalLemmas.{shortage_of_memory}
+use Rattle.resolver_encoding.proofs.RoomLemmas.{KeepsRoom-same}
+use Rattle.resolver_encoding.proofs.EncodingLemmas.{IsStep-same}
+use Rattle.resolver_encoding.proofs.LedLemmas.{AddsOnly-equal}
 use Rattle.resolver_encoding.proofs.encoding.Encoding.help.Goals as goal
 
 pub append-requires-clause-absent : goal.append-requires-clause-absent
-append-requires-clause-absent g c =
-    let Has : List VersionSetId → Type 0 = λ list. Contains list c.args.version_set in
+append-requires-clause-absent g c = let Has : List VersionSetId → Type 0 = λ list. Contains list c.args.version_set in
     λ h. c.if-is_among.ensures (subst Has c.in_ok-imply_each.ensures.helped h)
 
-pub returns-clause-step : goal.returns-clause-step
-returns-clause-step g c =
-    let u = g.D.Interner.universe c.args.provider.now in
-    let v = c.args.version_set in
-    let mid = notes_in c.imply_each.new.self in
-    let answer = c.matching.ensures u c.fetch_matching.ensures.is_true in
-    let AllFollow : List g.row.S.Denot → Type 0 = λ list. All (λ s. Contains mid.kinds (AnyOf (ConditionHelper v) s)) list in
-    IsStep-trans u idle (λ root. ⊤) _ _ _ c.in_ok-imply_each.ensures.step
-    (IsStep-helped u mid _ v (λ i. record mid { helped = c.in_ok-append.ensures.keys i }) (λ s h.
-    All-contains (λ t. Contains mid.kinds (AnyOf (ConditionHelper v) t)) (matching u v) s (subst AllFollow answer c.in_ok-imply_each.ensures.follow) h))
+pub returns-then-is_among : goal.returns-then-is_among
+returns-then-is_among g c =
+    record {
+      room = KeepsRoom-same _ c.requires.bounded;
+      is_true = c.requires.is_true;
+      step = IsStep-same (g.D.Interner.universe c.args.provider.now) idle (λ root. ⊤) (notes_in c.args.self.now);
+      helped = c.if-is_among.ensures;
+      adds = AddsOnly-equal _ _ _ refl refl;
+      refusal = tt;
+    }
 
-pub returns-clause-helped : goal.returns-clause-helped
-returns-clause-helped g c =
-    let Has : List VersionSetId → Type 0 = λ list. Contains list c.args.version_set in
-    subst Has (sym c.in_ok-append.ensures.keys) (Contains-push c.imply_each.new.self.helped.keys c.args.version_set)
+pub returns-in_err-fetch_matching : goal.returns-in_err-fetch_matching
+returns-in_err-fetch_matching g c =
+    record {
+      room = KeepsRoom-same _ c.requires.bounded;
+      is_true = c.fetch_matching.ensures.is_true;
+      step = IfOk-from_err c.from_residual.result _ c.from_residual.ensures.0;
+      helped = IfOk-from_err c.from_residual.result _ c.from_residual.ensures.0;
+      adds = AddsOnly-equal _ _ _ refl refl;
+      refusal = IfErr-stop c.from_residual.result (g.D.DependencyProvider.may_cancel c.args.provider.now) _
+          c.in_err-fetch_matching.field-0.0 c.from_residual.ensures.1 c.in_err-fetch_matching.ensures.refusal;
+    }
 
-pub returns-in_err-append-clause-adds : goal.returns-in_err-append-clause-adds
-returns-in_err-append-clause-adds g c = AddsOnly-same_as _ (notes_in c.args.self.now) (notes_in c.imply_each.new.self) _ c.imply_each.ensures.adds refl refl
+pub returns-in_err-imply_each : goal.returns-in_err-imply_each
+returns-in_err-imply_each g c =
+    record {
+      room = c.imply_each.ensures.room;
+      is_true = c.fetch_matching.ensures.is_true;
+      step = IfOk-from_err c.from_residual-in_err-imply_each.result _ c.from_residual-in_err-imply_each.ensures.0;
+      helped = IfOk-from_err c.from_residual-in_err-imply_each.result _ c.from_residual-in_err-imply_each.ensures.0;
+      adds = c.imply_each.ensures.adds;
+      refusal = IfErr-of c.from_residual-in_err-imply_each.result _ _ c.from_residual-in_err-imply_each.ensures.1 c.in_err-imply_each.ensures.refusal;
+    }
 
-pub returns-clause-adds : goal.returns-clause-adds
-returns-clause-adds g c = AddsOnly-same_as _ (notes_in c.args.self.now) (notes_in c.imply_each.new.self) _ c.imply_each.ensures.adds refl refl
+pub returns-in_err-append : goal.returns-in_err-append
+returns-in_err-append g c =
+    record {
+      adds = AddsOnly-same_as _ (notes_in c.args.self.now) (notes_in c.imply_each.new.self) _ c.imply_each.ensures.adds refl refl;
+      room = (let it = c.imply_each.ensures.room in record { bounded = it.bounded; variables = it.variables; clauses = it.clauses });
+      is_true = c.fetch_matching.ensures.is_true;
+      step = IfOk-from_err c.from_residual-in_err-append.result _ c.from_residual-in_err-append.ensures.0;
+      helped = IfOk-from_err c.from_residual-in_err-append.result _ c.from_residual-in_err-append.ensures.0;
+      refusal = IfErr-of c.from_residual-in_err-append.result _ _ c.from_residual-in_err-append.ensures.1
+          (shortage_of_memory _ _ c.in_err-append.ensures.memory);
+    }
+
+pub returns : goal.returns
+returns g c =
+    record {
+      step = let u = g.D.Interner.universe c.args.provider.now in
+          let v = c.args.version_set in
+          let mid = notes_in c.imply_each.new.self in
+          let answer = c.matching.ensures u c.fetch_matching.ensures.is_true in
+          let AllFollow : List g.row.S.Denot → Type 0 = λ list. All (λ s. Contains mid.kinds (AnyOf (ConditionHelper v) s)) list in
+          IsStep-trans u idle (λ root. ⊤) _ _ _ c.in_ok-imply_each.ensures.step
+          (IsStep-helped u mid _ v (λ i. record mid { helped = c.in_ok-append.ensures.keys i }) (λ s h.
+          All-contains (λ t. Contains mid.kinds (AnyOf (ConditionHelper v) t)) (matching u v) s (subst AllFollow answer c.in_ok-imply_each.ensures.follow) h));
+      helped = let Has : List VersionSetId → Type 0 = λ list. Contains list c.args.version_set in
+          subst Has (sym c.in_ok-append.ensures.keys) (Contains-push c.imply_each.new.self.helped.keys c.args.version_set);
+      adds = AddsOnly-same_as _ (notes_in c.args.self.now) (notes_in c.imply_each.new.self) _ c.imply_each.ensures.adds refl refl;
+      room = (let it = c.imply_each.ensures.room in record { bounded = it.bounded; variables = it.variables; clauses = it.clauses });
+      is_true = c.fetch_matching.ensures.is_true;
+      refusal = tt;
+    }

@@ -10,41 +10,68 @@ use Rattle.resolver_encoding.proofs.EncodingLemmas.{IsStep-trans, clause_listed}
 use Rattle.resolver_encoding.proofs.NoteLemmas.{IsStep-gated, IsStep-kind}
 use Rattle.resolver_encoding.proofs.LedLemmas.{AddsOnly-same_as, AddsOnly-weaker}
 use Rattle.resolver_encoding.proofs.TableLemmas.{gate_mentions}
+use Rattle.std.proofs.lemmas.Result.{IfOk-from_err}
+use Rattle.resolver_encoding.proofs.RefusalLemmas.{IfErr-of}
+use Rattle.resolver_encoding.proofs.RefusalLemmas.{shortage_of_memory}
+use Rattle.resolver_encoding.proofs.RoomLemmas.{KeepsRoom-same}
+use Rattle.resolver_encoding.proofs.EncodingLemmas.{IsStep-same}
+use Rattle.resolver_encoding.proofs.LedLemmas.{AddsOnly-equal}
 use Rattle.resolver_encoding.proofs.encoding.Encoding.make_gate.Goals as goal
 
-pub returns-clause-step : goal.returns-clause-step
-returns-clause-step g c =
-    let u = g.D.Interner.universe c.args.provider.now in
-    let r = c.args.requirement in
-    let old = notes_in c.args.self.now in
-    let mid = notes_in c.add_with.new.self in
-    let adds = c.in_ok-add_with.ensures.added u c.requires.candidates in
-    IsStep-trans u idle (λ root. ⊤) _ _ _
-    (IsStep-kind u idle (λ root. ⊤) old mid (GateRequires r) adds (λ root _ before codes _. tt) tt tt (record {
-      packages = λ v h. All-contains (λ w. Contains old.asked (u.version_set_name w)) (version_sets u r) v c.requires.asked h;
-      candidates = λ s h. let Has : List g.row.S.Denot → Type 0 = λ list. Contains list s in
-          All-contains (Contains old.seen) c.args.choices.now.candidates.items s c.requires.seen (subst Has (sym c.requires.candidates) h);
-    }))
-    (IsStep-gated u mid _ r (λ i. record mid { gates = c.in_ok-append.ensures.keys i }) (clause_listed u old mid (GateRequires r) adds))
+pub returns-then-is_among : goal.returns-then-is_among
+returns-then-is_among g c =
+    record {
+      room = KeepsRoom-same _ c.requires.bounded;
+      step = IsStep-same (g.D.Interner.universe c.args.provider.now) idle (λ root. ⊤) (notes_in c.args.self.now);
+      gate = c.if-is_among.ensures;
+      adds = AddsOnly-equal _ _ _ refl refl;
+      refusal = tt;
+    }
 
-pub returns-clause-gate : goal.returns-clause-gate
-returns-clause-gate g c =
-    let Has : List Requirement → Type 0 = λ list. Contains list c.args.requirement in
-    subst Has (sym c.in_ok-append.ensures.keys) (Contains-push c.add_with.new.self.gates.keys c.args.requirement)
+pub returns-in_err-add_with : goal.returns-in_err-add_with
+returns-in_err-add_with g c =
+    record {
+      adds = let u = g.D.Interner.universe c.args.provider.now in
+          AddsOnly-weaker _ _ (gate_mentions u c.args.requirement) _ _ (c.add_with.ensures.adds u c.requires.candidates);
+      room = c.add_with.ensures.room;
+      step = IfOk-from_err c.from_residual.result _ c.from_residual.ensures.0;
+      gate = IfOk-from_err c.from_residual.result _ c.from_residual.ensures.0;
+      refusal = IfErr-of c.from_residual.result _ _ c.from_residual.ensures.1 c.in_err-add_with.ensures.refusal;
+    }
 
-pub returns-in_err-add_with-clause-adds : goal.returns-in_err-add_with-clause-adds
-returns-in_err-add_with-clause-adds g c =
-    let u = g.D.Interner.universe c.args.provider.now in
-    AddsOnly-weaker _ _ (gate_mentions u c.args.requirement) _ _ (c.add_with.ensures.adds u c.requires.candidates)
+pub returns-in_err-append : goal.returns-in_err-append
+returns-in_err-append g c =
+    record {
+      adds = let u = g.D.Interner.universe c.args.provider.now in
+          AddsOnly-same_as _ (notes_in c.args.self.now) (notes_in c.add_with.new.self) _
+          (AddsOnly-weaker _ _ (gate_mentions u c.args.requirement) _ _ (c.add_with.ensures.adds u c.requires.candidates)) refl refl;
+      room = (let it = c.add_with.ensures.room in record { bounded = it.bounded; variables = it.variables; clauses = it.clauses });
+      step = IfOk-from_err c.from_residual-in_err-append.result _ c.from_residual-in_err-append.ensures.0;
+      gate = IfOk-from_err c.from_residual-in_err-append.result _ c.from_residual-in_err-append.ensures.0;
+      refusal = IfErr-of c.from_residual-in_err-append.result _ _ c.from_residual-in_err-append.ensures.1
+          (shortage_of_memory _ _ c.in_err-append.ensures.memory);
+    }
 
-pub returns-in_err-append-clause-adds : goal.returns-in_err-append-clause-adds
-returns-in_err-append-clause-adds g c =
-    let u = g.D.Interner.universe c.args.provider.now in
-    AddsOnly-same_as _ (notes_in c.args.self.now) (notes_in c.add_with.new.self) _
-    (AddsOnly-weaker _ _ (gate_mentions u c.args.requirement) _ _ (c.add_with.ensures.adds u c.requires.candidates)) refl refl
-
-pub returns-clause-adds : goal.returns-clause-adds
-returns-clause-adds g c =
-    let u = g.D.Interner.universe c.args.provider.now in
-    AddsOnly-same_as _ (notes_in c.args.self.now) (notes_in c.add_with.new.self) _
-    (AddsOnly-weaker _ _ (gate_mentions u c.args.requirement) _ _ (c.add_with.ensures.adds u c.requires.candidates)) refl refl
+pub returns : goal.returns
+returns g c =
+    record {
+      step = let u = g.D.Interner.universe c.args.provider.now in
+          let r = c.args.requirement in
+          let old = notes_in c.args.self.now in
+          let mid = notes_in c.add_with.new.self in
+          let adds = c.in_ok-add_with.ensures.added u c.requires.candidates in
+          IsStep-trans u idle (λ root. ⊤) _ _ _
+          (IsStep-kind u idle (λ root. ⊤) old mid (GateRequires r) adds (λ root _ before codes _. tt) tt tt (record {
+            packages = λ v h. All-contains (λ w. Contains old.asked (u.version_set_name w)) (version_sets u r) v c.requires.asked h;
+            candidates = λ s h. let Has : List g.row.S.Denot → Type 0 = λ list. Contains list s in
+                All-contains (Contains old.seen) c.args.choices.now.candidates.items s c.requires.seen (subst Has (sym c.requires.candidates) h);
+          }))
+          (IsStep-gated u mid _ r (λ i. record mid { gates = c.in_ok-append.ensures.keys i }) (clause_listed u old mid (GateRequires r) adds));
+      gate = let Has : List Requirement → Type 0 = λ list. Contains list c.args.requirement in
+          subst Has (sym c.in_ok-append.ensures.keys) (Contains-push c.add_with.new.self.gates.keys c.args.requirement);
+      adds = let u = g.D.Interner.universe c.args.provider.now in
+          AddsOnly-same_as _ (notes_in c.args.self.now) (notes_in c.add_with.new.self) _
+          (AddsOnly-weaker _ _ (gate_mentions u c.args.requirement) _ _ (c.add_with.ensures.adds u c.requires.candidates)) refl refl;
+      room = (let it = c.add_with.ensures.room in record { bounded = it.bounded; variables = it.variables; clauses = it.clauses });
+      refusal = tt;
+    }

@@ -9,20 +9,21 @@ use Rattle.resolver_encoding.proofs.SoFarLemmas.{all_asked, firing_half, lawful_
 use Rattle.std.proofs.lemmas.List.Elements.{All-contains}
 use Rattle.resolver_clause_store.specs.Near.{IsNear}
 use Rattle.resolver_encoding.proofs.LedReading.{led_fired}
+use Rattle.std.proofs.lemmas.Result.{IfOk-from_err}
+use Rattle.resolver_encoding.proofs.RefusalLemmas.{IfErr-of}
+use Rattle.resolver_encoding.proofs.RoomLemmas.{KeepsRoom-trans}
 use Rattle.resolver_encoding.proofs.encoding.Encoding.read_chosen.Goals as goal
 
 pub read_each-requires-clause-half : goal.read_each-requires-clause-half
 read_each-requires-clause-half g c = let reading = c.requires.reading in record { root = reading.root; half = reading.so_far.half }
 
 pub fire_deferred-requires-clause-encoding : goal.fire_deferred-requires-clause-encoding
-fire_deferred-requires-clause-encoding g c =
-    let reading = c.requires.reading in
+fire_deferred-requires-clause-encoding g c = let reading = c.requires.reading in
     let half = c.in_ok-read.ensures.reading.keeps reading.root reading.so_far.half in
     record { root = reading.root; premise = tt; encoding = half.encoding }
 
 pub read_hinted-requires-clause-half : goal.read_hinted-requires-clause-half
-read_hinted-requires-clause-half g c =
-    let u = g.D.Interner.universe c.args.provider.now in
+read_hinted-requires-clause-half g c = let u = g.D.Interner.universe c.args.provider.now in
     let set = c.args.chosen.now.keys in
     let mid = notes_in c.read_each.new.self in
     let fired = notes_in c.fire_deferred.new.self in
@@ -32,8 +33,7 @@ read_hinted-requires-clause-half g c =
     record { root = before.root; half = firing_half u set mid fired firing before.root (reading.keeps before.root before.so_far.half) }
 
 pub read_hinted-requires-clause-within : goal.read_hinted-requires-clause-within
-read_hinted-requires-clause-within g c =
-    let old = notes_in c.args.self.now in
+read_hinted-requires-clause-within g c = let old = notes_in c.args.self.now in
     let mid = notes_in c.read_each.new.self in
     let fired = notes_in c.fire_deferred.new.self in
     let first : length old.requirements ≤ length mid.requirements = longer old.requirements mid.requirements c.in_ok-read.ensures.reading.requirements in
@@ -41,143 +41,182 @@ read_hinted-requires-clause-within g c =
     let size : c.requirement_count-clauses.result ≡ length old.requirements = c.requirement_count-clauses.ensures in
     omega (arith, first, second, size)
 
-pub returns-clause-read : goal.returns-clause-read
-returns-clause-read g c = λ root so.
-    let u = g.D.Interner.universe c.args.provider.now in
-    let set = c.args.chosen.now.keys in
-    let old = notes_in c.args.self.now in
-    let mid = notes_in c.read_each.new.self in
-    let fired = notes_in c.fire_deferred.new.self in
-    let new = notes_in c.read_hinted.new.self in
-    let reading = c.in_ok-read.ensures.reading in
-    let firing = c.in_ok-fired.ensures.firing in
-    let From : ℕ → Type 0 = λ n. IsHintedReading u set n fired new in
-    let hinted = subst From c.requirement_count-clauses.ensures c.in_ok-hinted.ensures.reading in
-    let half = reading.keeps root so.half in
-    so_far_on u set root (IsListedFrom new (length old.requirements)) fired new
-    (so_far u set old mid fired reading firing root c.args.from so c.in_ok-read.ensures.here (c.in_ok-fired.ensures.quiet half.encoding.sound_deferred_by_name)
-    (lawful_solvables u g.S.PartialEq.eq (g.met.D.Interner.lawful_ids c.args.provider.now)
-    (g.met.D.Interner.solvables_compare c.args.provider.now) g.met.D.Interner.solvables_are_values)
-    (g.met.D.DependencyProvider.lawful_packages c.args.provider.now))
-    hinted.reading
+pub returns-in_err-read : goal.returns-in_err-read
+returns-in_err-read g c =
+    record {
+      led = λ root seeds packages so near all led.
+          let u = g.D.Interner.universe c.args.provider.now in
+          let set = c.args.chosen.now.keys in
+          let old = notes_in c.args.self.now in
+          let mid = notes_in c.read_each.new.self in
+          let first = c.read_each.ensures.led.led root seeds packages near all led in
+          first;
+      bounded = c.read_each.ensures.room.bounded;
+      is_true = c.read_each.ensures.is_true;
+      read = IfOk-from_err c.from_residual.result _ c.from_residual.ensures.0;
+      asked = IfOk-from_err c.from_residual.result _ c.from_residual.ensures.0;
+      near = IfOk-from_err c.from_residual.result _ c.from_residual.ensures.0;
+      hinted = IfOk-from_err c.from_residual.result _ c.from_residual.ensures.0;
+      more = IfOk-from_err c.from_residual.result _ c.from_residual.ensures.0;
+      progress = IfOk-from_err c.from_residual.result _ c.from_residual.ensures.0;
+      fit = IfOk-from_err c.from_residual.result _ c.from_residual.ensures.0;
+      limits = (let it = c.read_each.ensures.room in record { variables = it.variables; clauses = it.clauses });
+      refusal = IfErr-of c.from_residual.result _ _ c.from_residual.ensures.1 c.in_err-read.ensures.refusal;
+    }
 
-pub returns-clause-asked : goal.returns-clause-asked
-returns-clause-asked g c = λ root so.
-    let u = g.D.Interner.universe c.args.provider.now in
-    let set = c.args.chosen.now.keys in
-    let old = notes_in c.args.self.now in
-    let mid = notes_in c.read_each.new.self in
-    let fired = notes_in c.fire_deferred.new.self in
-    let new = notes_in c.read_hinted.new.self in
-    let reading = c.in_ok-read.ensures.reading in
-    let firing = c.in_ok-fired.ensures.firing in
-    let From : ℕ → Type 0 = λ n. IsHintedReading u set n fired new in
-    let hinted = subst From c.requirement_count-clauses.ensures c.in_ok-hinted.ensures.reading in
-    let half = reading.keeps root so.half in
-    let quiet = c.in_ok-fired.ensures.quiet half.encoding.sound_deferred_by_name in
-    let lawful = lawful_solvables u g.S.PartialEq.eq (g.met.D.Interner.lawful_ids c.args.provider.now)
-    (g.met.D.Interner.solvables_compare c.args.provider.now) g.met.D.Interner.solvables_are_values in
-    let packages = g.met.D.DependencyProvider.lawful_packages c.args.provider.now in
-    let here = c.in_ok-read.ensures.here in
-    asked_on u set root (IsListedFrom new (length old.requirements)) old.asked fired new
-    (so_far u set old mid fired reading firing root c.args.from so here quiet lawful packages)
-    hinted.reading
-    (all_asked u set old mid fired reading firing root c.args.from so here quiet lawful packages)
+pub returns-in_err-fired : goal.returns-in_err-fired
+returns-in_err-fired g c =
+    record {
+      led = λ root seeds packages so near all led.
+          let u = g.D.Interner.universe c.args.provider.now in
+          let set = c.args.chosen.now.keys in
+          let old = notes_in c.args.self.now in
+          let mid = notes_in c.read_each.new.self in
+          let first = c.read_each.ensures.led.led root seeds packages near all led in
+          let fired = notes_in c.fire_deferred.new.self in
+          let reading = c.in_ok-read.ensures.reading in
+          let half = reading.keeps root so.half in
+          let mid_near = near_read u root seeds packages set (Contains set) old mid reading near all (λ s h. All-contains (IsNear u root seeds) set s all h) in
+          let second = led_fired u root seeds packages set mid fired half mid_near all c.fire_deferred.ensures.brings first in
+          second;
+      bounded = c.fire_deferred.ensures.room.bounded;
+      is_true = c.fire_deferred.ensures.is_true;
+      read = IfOk-from_err c.from_residual-in_err-fired.result _ c.from_residual-in_err-fired.ensures.0;
+      asked = IfOk-from_err c.from_residual-in_err-fired.result _ c.from_residual-in_err-fired.ensures.0;
+      near = IfOk-from_err c.from_residual-in_err-fired.result _ c.from_residual-in_err-fired.ensures.0;
+      hinted = IfOk-from_err c.from_residual-in_err-fired.result _ c.from_residual-in_err-fired.ensures.0;
+      more = IfOk-from_err c.from_residual-in_err-fired.result _ c.from_residual-in_err-fired.ensures.0;
+      progress = IfOk-from_err c.from_residual-in_err-fired.result _ c.from_residual-in_err-fired.ensures.0;
+      fit = IfOk-from_err c.from_residual-in_err-fired.result _ c.from_residual-in_err-fired.ensures.0;
+      limits = (let it = KeepsRoom-trans _ _ _ c.read_each.ensures.room c.fire_deferred.ensures.room in
+          record { variables = it.variables; clauses = it.clauses });
+      refusal = IfErr-of c.from_residual-in_err-fired.result _ _ c.from_residual-in_err-fired.ensures.1 c.in_err-fired.ensures.refusal;
+    }
 
-pub returns-clause-near : goal.returns-clause-near
-returns-clause-near g c = λ root seeds packages so near all.
-    c.in_ok-hinted.ensures.reading.near root seeds packages
-    (near_after (g.D.Interner.universe c.args.provider.now) root seeds packages c.args.chosen.now.keys (notes_in c.args.self.now)
-    (notes_in c.read_each.new.self) (notes_in c.fire_deferred.new.self) c.in_ok-read.ensures.reading c.in_ok-fired.ensures.firing so.half near all)
-    all
+pub returns-in_err-hinted : goal.returns-in_err-hinted
+returns-in_err-hinted g c =
+    record {
+      led = λ root seeds packages so near all led.
+          let u = g.D.Interner.universe c.args.provider.now in
+          let set = c.args.chosen.now.keys in
+          let old = notes_in c.args.self.now in
+          let mid = notes_in c.read_each.new.self in
+          let first = c.read_each.ensures.led.led root seeds packages near all led in
+          let fired = notes_in c.fire_deferred.new.self in
+          let reading = c.in_ok-read.ensures.reading in
+          let half = reading.keeps root so.half in
+          let mid_near = near_read u root seeds packages set (Contains set) old mid reading near all (λ s h. All-contains (IsNear u root seeds) set s all h) in
+          let second = led_fired u root seeds packages set mid fired half mid_near all c.fire_deferred.ensures.brings first in
+          let fired_near = near_after u root seeds packages set old mid fired reading c.in_ok-fired.ensures.firing so.half near all in
+          c.read_hinted.ensures.led.led root seeds packages fired_near all second;
+      bounded = c.read_hinted.ensures.room.bounded;
+      is_true = c.read_hinted.ensures.is_true;
+      read = IfOk-from_err c.from_residual-in_err-hinted.result _ c.from_residual-in_err-hinted.ensures.0;
+      asked = IfOk-from_err c.from_residual-in_err-hinted.result _ c.from_residual-in_err-hinted.ensures.0;
+      near = IfOk-from_err c.from_residual-in_err-hinted.result _ c.from_residual-in_err-hinted.ensures.0;
+      hinted = IfOk-from_err c.from_residual-in_err-hinted.result _ c.from_residual-in_err-hinted.ensures.0;
+      more = IfOk-from_err c.from_residual-in_err-hinted.result _ c.from_residual-in_err-hinted.ensures.0;
+      progress = IfOk-from_err c.from_residual-in_err-hinted.result _ c.from_residual-in_err-hinted.ensures.0;
+      fit = IfOk-from_err c.from_residual-in_err-hinted.result _ c.from_residual-in_err-hinted.ensures.0;
+      limits = (let it = KeepsRoom-trans _ _ _ c.read_each.ensures.room (KeepsRoom-trans _ _ _ c.fire_deferred.ensures.room c.read_hinted.ensures.room) in
+          record { variables = it.variables; clauses = it.clauses });
+      refusal = IfErr-of c.from_residual-in_err-hinted.result _ _ c.from_residual-in_err-hinted.ensures.1 c.in_err-hinted.ensures.refusal;
+    }
 
-pub returns-clause-hinted : goal.returns-clause-hinted
-returns-clause-hinted g c =
-    let u = g.D.Interner.universe c.args.provider.now in
-    let From : ℕ → Type 0 = λ n. AreHintsRead u n (notes_in c.read_hinted.new.self) in
-    subst From c.requirement_count-clauses.ensures c.in_ok-hinted.ensures.here
-
-pub returns-clause-more : goal.returns-clause-more
-returns-clause-more g c =
-    let u = g.D.Interner.universe c.args.provider.now in
-    let set = c.args.chosen.now.keys in
-    let old = notes_in c.args.self.now in
-    let mid = notes_in c.read_each.new.self in
-    let fired = notes_in c.fire_deferred.new.self in
-    let new = notes_in c.read_hinted.new.self in
-    let reading = c.in_ok-read.ensures.reading in
-    let firing = c.in_ok-fired.ensures.firing in
-    let From : ℕ → Type 0 = λ n. IsHintedReading u set n fired new in
-    let hinted = subst From c.requirement_count-clauses.ensures c.in_ok-hinted.ensures.reading in
-    let before = c.requires.reading in
-    let half = firing_half u set mid fired firing before.root (reading.keeps before.root before.so_far.half) in
-    more_on u set before.root old fired new half.encoding (read_more u set old mid fired reading firing) hinted.reading
-
-pub returns-clause-progress : goal.returns-clause-progress
-returns-clause-progress g c =
-    let u = g.D.Interner.universe c.args.provider.now in
-    let set = c.args.chosen.now.keys in
-    let old = notes_in c.args.self.now in
-    let mid = notes_in c.read_each.new.self in
-    let fired = notes_in c.fire_deferred.new.self in
-    let new = notes_in c.read_hinted.new.self in
-    let reading = c.in_ok-read.ensures.reading in
-    let firing = c.in_ok-fired.ensures.firing in
-    let Made : Progress → Type 0 = λ p. IsProgress old new p in
-    subst Made (sym c.progress_of.ensures)
-    (progress_then old fired new c.in_ok-read.read c.in_ok-fired.fired c.in_ok-hinted.hinted
-    (progress u set old mid fired c.in_ok-read.read c.in_ok-fired.fired c.in_ok-read.ensures.any_new c.in_ok-fired.ensures.fired firing)
-    c.in_ok-hinted.ensures.any_new)
-
-pub returns-in_err-read-clause-led : goal.returns-in_err-read-clause-led
-returns-in_err-read-clause-led g c = λ root seeds packages so near all led.
-    let u = g.D.Interner.universe c.args.provider.now in
-    let set = c.args.chosen.now.keys in
-    let old = notes_in c.args.self.now in
-    let mid = notes_in c.read_each.new.self in
-    let first = c.read_each.ensures.led.led root seeds packages near all led in
-    first
-
-pub returns-in_err-fired-clause-led : goal.returns-in_err-fired-clause-led
-returns-in_err-fired-clause-led g c = λ root seeds packages so near all led.
-    let u = g.D.Interner.universe c.args.provider.now in
-    let set = c.args.chosen.now.keys in
-    let old = notes_in c.args.self.now in
-    let mid = notes_in c.read_each.new.self in
-    let first = c.read_each.ensures.led.led root seeds packages near all led in
-    let fired = notes_in c.fire_deferred.new.self in
-    let reading = c.in_ok-read.ensures.reading in
-    let half = reading.keeps root so.half in
-    let mid_near = near_read u root seeds packages set (Contains set) old mid reading near all (λ s h. All-contains (IsNear u root seeds) set s all h) in
-    let second = led_fired u root seeds packages set mid fired half mid_near all c.fire_deferred.ensures.brings first in
-    second
-
-pub returns-in_err-hinted-clause-led : goal.returns-in_err-hinted-clause-led
-returns-in_err-hinted-clause-led g c = λ root seeds packages so near all led.
-    let u = g.D.Interner.universe c.args.provider.now in
-    let set = c.args.chosen.now.keys in
-    let old = notes_in c.args.self.now in
-    let mid = notes_in c.read_each.new.self in
-    let first = c.read_each.ensures.led.led root seeds packages near all led in
-    let fired = notes_in c.fire_deferred.new.self in
-    let reading = c.in_ok-read.ensures.reading in
-    let half = reading.keeps root so.half in
-    let mid_near = near_read u root seeds packages set (Contains set) old mid reading near all (λ s h. All-contains (IsNear u root seeds) set s all h) in
-    let second = led_fired u root seeds packages set mid fired half mid_near all c.fire_deferred.ensures.brings first in
-    let fired_near = near_after u root seeds packages set old mid fired reading c.in_ok-fired.ensures.firing so.half near all in
-    c.read_hinted.ensures.led.led root seeds packages fired_near all second
-
-pub returns-clause-led : goal.returns-clause-led
-returns-clause-led g c = λ root seeds packages so near all led.
-    let u = g.D.Interner.universe c.args.provider.now in
-    let set = c.args.chosen.now.keys in
-    let old = notes_in c.args.self.now in
-    let mid = notes_in c.read_each.new.self in
-    let first = c.read_each.ensures.led.led root seeds packages near all led in
-    let fired = notes_in c.fire_deferred.new.self in
-    let reading = c.in_ok-read.ensures.reading in
-    let half = reading.keeps root so.half in
-    let mid_near = near_read u root seeds packages set (Contains set) old mid reading near all (λ s h. All-contains (IsNear u root seeds) set s all h) in
-    let second = led_fired u root seeds packages set mid fired half mid_near all c.fire_deferred.ensures.brings first in
-    let fired_near = near_after u root seeds packages set old mid fired reading c.in_ok-fired.ensures.firing so.half near all in
-    c.read_hinted.ensures.led.led root seeds packages fired_near all second
+pub returns : goal.returns
+returns g c =
+    record {
+      read = λ root so.
+          let u = g.D.Interner.universe c.args.provider.now in
+          let set = c.args.chosen.now.keys in
+          let old = notes_in c.args.self.now in
+          let mid = notes_in c.read_each.new.self in
+          let fired = notes_in c.fire_deferred.new.self in
+          let new = notes_in c.read_hinted.new.self in
+          let reading = c.in_ok-read.ensures.reading in
+          let firing = c.in_ok-fired.ensures.firing in
+          let From : ℕ → Type 0 = λ n. IsHintedReading u set n fired new in
+          let hinted = subst From c.requirement_count-clauses.ensures c.in_ok-hinted.ensures.reading in
+          let half = reading.keeps root so.half in
+          so_far_on u set root (IsListedFrom new (length old.requirements)) fired new
+          (so_far u set old mid fired reading firing root c.args.from so c.in_ok-read.ensures.here
+          (c.in_ok-fired.ensures.quiet half.encoding.sound_deferred_by_name)
+          (lawful_solvables u g.S.PartialEq.eq (g.met.D.Interner.lawful_ids c.args.provider.now)
+          (g.met.D.Interner.solvables_compare c.args.provider.now) g.met.D.Interner.solvables_are_values)
+          (g.met.D.DependencyProvider.lawful_packages c.args.provider.now))
+          hinted.reading;
+      asked = λ root so.
+          let u = g.D.Interner.universe c.args.provider.now in
+          let set = c.args.chosen.now.keys in
+          let old = notes_in c.args.self.now in
+          let mid = notes_in c.read_each.new.self in
+          let fired = notes_in c.fire_deferred.new.self in
+          let new = notes_in c.read_hinted.new.self in
+          let reading = c.in_ok-read.ensures.reading in
+          let firing = c.in_ok-fired.ensures.firing in
+          let From : ℕ → Type 0 = λ n. IsHintedReading u set n fired new in
+          let hinted = subst From c.requirement_count-clauses.ensures c.in_ok-hinted.ensures.reading in
+          let half = reading.keeps root so.half in
+          let quiet = c.in_ok-fired.ensures.quiet half.encoding.sound_deferred_by_name in
+          let lawful = lawful_solvables u g.S.PartialEq.eq (g.met.D.Interner.lawful_ids c.args.provider.now)
+          (g.met.D.Interner.solvables_compare c.args.provider.now) g.met.D.Interner.solvables_are_values in
+          let packages = g.met.D.DependencyProvider.lawful_packages c.args.provider.now in
+          let here = c.in_ok-read.ensures.here in
+          asked_on u set root (IsListedFrom new (length old.requirements)) old.asked fired new
+          (so_far u set old mid fired reading firing root c.args.from so here quiet lawful packages)
+          hinted.reading
+          (all_asked u set old mid fired reading firing root c.args.from so here quiet lawful packages);
+      near = λ root seeds packages so near all.
+          c.in_ok-hinted.ensures.reading.near root seeds packages
+          (near_after (g.D.Interner.universe c.args.provider.now) root seeds packages c.args.chosen.now.keys (notes_in c.args.self.now)
+          (notes_in c.read_each.new.self) (notes_in c.fire_deferred.new.self) c.in_ok-read.ensures.reading c.in_ok-fired.ensures.firing so.half near all)
+          all;
+      hinted = let u = g.D.Interner.universe c.args.provider.now in
+          let From : ℕ → Type 0 = λ n. AreHintsRead u n (notes_in c.read_hinted.new.self) in
+          subst From c.requirement_count-clauses.ensures c.in_ok-hinted.ensures.here;
+      more = let u = g.D.Interner.universe c.args.provider.now in
+          let set = c.args.chosen.now.keys in
+          let old = notes_in c.args.self.now in
+          let mid = notes_in c.read_each.new.self in
+          let fired = notes_in c.fire_deferred.new.self in
+          let new = notes_in c.read_hinted.new.self in
+          let reading = c.in_ok-read.ensures.reading in
+          let firing = c.in_ok-fired.ensures.firing in
+          let From : ℕ → Type 0 = λ n. IsHintedReading u set n fired new in
+          let hinted = subst From c.requirement_count-clauses.ensures c.in_ok-hinted.ensures.reading in
+          let before = c.requires.reading in
+          let half = firing_half u set mid fired firing before.root (reading.keeps before.root before.so_far.half) in
+          more_on u set before.root old fired new half.encoding (read_more u set old mid fired reading firing) hinted.reading;
+      progress = let u = g.D.Interner.universe c.args.provider.now in
+          let set = c.args.chosen.now.keys in
+          let old = notes_in c.args.self.now in
+          let mid = notes_in c.read_each.new.self in
+          let fired = notes_in c.fire_deferred.new.self in
+          let new = notes_in c.read_hinted.new.self in
+          let reading = c.in_ok-read.ensures.reading in
+          let firing = c.in_ok-fired.ensures.firing in
+          let Made : Progress → Type 0 = λ p. IsProgress old new p in
+          subst Made (sym c.progress_of.ensures)
+          (progress_then old fired new c.in_ok-read.read c.in_ok-fired.fired c.in_ok-hinted.hinted
+          (progress u set old mid fired c.in_ok-read.read c.in_ok-fired.fired c.in_ok-read.ensures.any_new c.in_ok-fired.ensures.fired firing)
+          c.in_ok-hinted.ensures.any_new);
+      led = λ root seeds packages so near all led.
+          let u = g.D.Interner.universe c.args.provider.now in
+          let set = c.args.chosen.now.keys in
+          let old = notes_in c.args.self.now in
+          let mid = notes_in c.read_each.new.self in
+          let first = c.read_each.ensures.led.led root seeds packages near all led in
+          let fired = notes_in c.fire_deferred.new.self in
+          let reading = c.in_ok-read.ensures.reading in
+          let half = reading.keeps root so.half in
+          let mid_near = near_read u root seeds packages set (Contains set) old mid reading near all (λ s h. All-contains (IsNear u root seeds) set s all h) in
+          let second = led_fired u root seeds packages set mid fired half mid_near all c.fire_deferred.ensures.brings first in
+          let fired_near = near_after u root seeds packages set old mid fired reading c.in_ok-fired.ensures.firing so.half near all in
+          c.read_hinted.ensures.led.led root seeds packages fired_near all second;
+      bounded = c.read_hinted.ensures.room.bounded;
+      is_true = c.read_hinted.ensures.is_true;
+      fit = c.in_ok-hinted.ensures.fit;
+      limits = (let it = KeepsRoom-trans _ _ _ c.read_each.ensures.room (KeepsRoom-trans _ _ _ c.fire_deferred.ensures.room c.read_hinted.ensures.room) in
+          record { variables = it.variables; clauses = it.clauses });
+      refusal = tt;
+    }

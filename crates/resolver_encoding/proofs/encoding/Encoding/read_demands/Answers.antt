@@ -16,11 +16,12 @@ use Rattle.resolver_clause_store.specs.declared.Origin.{Origin}
 use Rattle.resolver_encoding.specs.Led.{IsOwn, with_constraints, with_requirements}
 use Rattle.resolver_encoding.proofs.LedLemmas.{Brings-trans, Brings-weaker, IsOwn-within, barred_brings, none_within}
 use Rattle.resolver_encoding.proofs.RoomLemmas.{KeepsRoom-trans}
+use Rattle.std.proofs.lemmas.Result.{IfOk-from_err}
+use Rattle.resolver_encoding.proofs.RefusalLemmas.{IfErr-of}
 use Rattle.resolver_encoding.proofs.encoding.Encoding.read_demands.Goals as goal
 
 pub read_requirements-requires-clause-encoding : goal.read_requirements-requires-clause-encoding
-read_requirements-requires-clause-encoding g c =
-    let u = g.D.Interner.universe c.args.provider.now in
+read_requirements-requires-clause-encoding g c = let u = g.D.Interner.universe c.args.provider.now in
     let by = c.args.by in
     let rs = c.args.requirements.now in
     let vs = c.args.constraints.now in
@@ -35,8 +36,7 @@ read_requirements-requires-clause-encoding g c =
     (notes_in c.ask_each.new.self) second
 
 pub read_constraints-requires-clause-encoding : goal.read_constraints-requires-clause-encoding
-read_constraints-requires-clause-encoding g c =
-    let u = g.D.Interner.universe c.args.provider.now in
+read_constraints-requires-clause-encoding g c = let u = g.D.Interner.universe c.args.provider.now in
     let by = c.args.by in
     let set = c.args.chosen.now.keys in
     let rs = c.args.requirements.now in
@@ -56,198 +56,207 @@ read_constraints-requires-clause-encoding g c =
     IsEncodingOf-weaker u Premise (λ root. All (λ v. HasConstraint u by v root) vs) (λ root same. subst AllWithin (sym same) (All-contains_itself vs))
     (notes_in c.read_requirements.new.self) third
 
-pub returns-clause-step : goal.returns-clause-step
-returns-clause-step g c =
-    let u = g.D.Interner.universe c.args.provider.now in
-    let by = c.args.by in
-    let set = c.args.chosen.now.keys in
-    let rs = c.args.requirements.now in
-    let vs = c.args.constraints.now in
-    let demands : Demands = record { requirements = rs; constraints = vs } in
-    let Premise : Demands → Type 0 = λ root. demands_by u root by ≡ demands in
-    let AllAsk : Demands → Type 0 = λ d. All (λ r. Contains d.requirements r) rs in
-    let AllWithin : Demands → Type 0 = λ d. All (λ v. Contains d.constraints v) vs in
-    let Plainly : Call g.row.N.Denot g.row.S.Denot → Type 0 = λ n. (r : ConditionalRequirement) × Contains rs r × IsPlainlyNamed u r n in
-    let Demanded = IsDemanded u set demands in
-    let Defers = IsUnmet u set by in
-    let asked = IsAskStep-trans u Demanded Premise _ _ _
-    (IsAskStep-weaker u Plainly Demanded (λ n h. inl (plainly_called u set rs n h)) (λ root. ⊤) Premise (λ root _. tt) _ _ c.in_ok-ask_plain_each.ensures.step)
-    (IsAskStep-weaker u (IsNamedBy u vs) Demanded (λ n h. inr h) (λ root. ⊤) Premise (λ root _. tt) _ _ c.in_ok-ask_each.ensures.step) in
-    let required = IsReadStep-trans u Defers Demanded Premise _ _ _ (IsReadStep-of u Defers Demanded Premise _ _ asked)
-    (IsReadStep-weaker u Defers (IsCalledByEach u set rs) Demanded (λ n h. inl h) (λ root. All (λ r. HasRequirement u by r root) rs) Premise (λ root same.
-    subst AllAsk (sym same) (All-contains_itself rs)) _ _ c.in_ok-read_requirements.ensures.step) in
-    IsReadStep-trans u Defers Demanded Premise _ _ _ required
-    (IsReadStep-of u Defers Demanded Premise _ _
-    (IsAskStep-weaker u (IsNamedBy u vs) Demanded (λ n h. inr h) (λ root. All (λ v. HasConstraint u by v root) vs) Premise (λ root same.
-    subst AllWithin (sym same) (All-contains_itself vs)) _ _ c.in_ok-read_constraints.ensures.step))
-
-pub returns-clause-read : goal.returns-clause-read
-returns-clause-read g c =
-    let u = g.D.Interner.universe c.args.provider.now in
-    let by = c.args.by in
-    let mid = notes_in c.read_requirements.new.self in
-    let new = notes_in c.read_constraints.new.self in
-    let step = c.in_ok-read_constraints.ensures.step in
-    let left : (e : Deferred g.row.S.Denot) → IsLeft mid e → IsLeft new e = λ e h. let Has : List (Option (Deferred g.row.S.Denot)) → Type 0 =
-    λ list. Contains list (Some e) in subst Has (sym step.deferred) h in
+pub returns-in_err-ask_plain_each : goal.returns-in_err-ask_plain_each
+returns-in_err-ask_plain_each g c =
     record {
-      requirements = All-weaker (IsReadRequirement u mid.kinds (IsLeft mid) by) (IsReadRequirement u new.kinds (IsLeft new) by) (λ r h.
-          IsReadRequirement-within u _ _ step.kinds (IsLeft mid) (IsLeft new) left by r h) c.args.requirements.now c.in_ok-read_requirements.ensures.read;
-      constraints = c.in_ok-read_constraints.ensures.read;
-      packages = c.in_ok-read_constraints.ensures.asked;
+      brings = let u = g.D.Interner.universe c.args.provider.now in
+          let by = c.args.by in
+          let set = c.args.chosen.now.keys in
+          let rs = c.args.requirements.now in
+          let vs = c.args.constraints.now in
+          let demands : Demands = record { requirements = rs; constraints = vs } in
+          let Plainly : Call g.row.N.Denot g.row.S.Denot → Type 0 = λ n. (r : ConditionalRequirement) × Contains rs r × IsPlainlyNamed u r n in
+          let Called = IsDemanded u set demands in
+          let Own : Origin g.row.N.Denot g.row.S.Denot → Type 0 = IsOwn u by demands in
+          let old = notes_in c.args.self.now in
+          let plain = notes_in c.ask_plain_each.new.self in
+          let first = barred_brings u Plainly Called (λ n h. inl (plainly_called u set rs n h)) Own old plain c.ask_plain_each.ensures.adds in
+          first;
+      is_true = c.ask_plain_each.ensures.is_true;
+      step = IfOk-from_err c.from_residual.result _ c.from_residual.ensures.0;
+      read = IfOk-from_err c.from_residual.result _ c.from_residual.ensures.0;
+      refusal = IfErr-of c.from_residual.result _ _ c.from_residual.ensures.1 c.in_err-ask_plain_each.ensures.refusal;
+      room = c.ask_plain_each.ensures.room;
     }
 
-pub returns-in_err-ask_plain_each-clause-brings : goal.returns-in_err-ask_plain_each-clause-brings
-returns-in_err-ask_plain_each-clause-brings g c =
-    let u = g.D.Interner.universe c.args.provider.now in
-    let by = c.args.by in
-    let set = c.args.chosen.now.keys in
-    let rs = c.args.requirements.now in
-    let vs = c.args.constraints.now in
-    let demands : Demands = record { requirements = rs; constraints = vs } in
-    let Plainly : Call g.row.N.Denot g.row.S.Denot → Type 0 = λ n. (r : ConditionalRequirement) × Contains rs r × IsPlainlyNamed u r n in
-    let Called = IsDemanded u set demands in
-    let Own : Origin g.row.N.Denot g.row.S.Denot → Type 0 = IsOwn u by demands in
-    let old = notes_in c.args.self.now in
-    let plain = notes_in c.ask_plain_each.new.self in
-    let first = barred_brings u Plainly Called (λ n h. inl (plainly_called u set rs n h)) Own old plain c.ask_plain_each.ensures.adds in
-    first
+pub returns-in_err-ask_each : goal.returns-in_err-ask_each
+returns-in_err-ask_each g c =
+    record {
+      brings = let u = g.D.Interner.universe c.args.provider.now in
+          let by = c.args.by in
+          let set = c.args.chosen.now.keys in
+          let rs = c.args.requirements.now in
+          let vs = c.args.constraints.now in
+          let demands : Demands = record { requirements = rs; constraints = vs } in
+          let Plainly : Call g.row.N.Denot g.row.S.Denot → Type 0 = λ n. (r : ConditionalRequirement) × Contains rs r × IsPlainlyNamed u r n in
+          let Called = IsDemanded u set demands in
+          let Own : Origin g.row.N.Denot g.row.S.Denot → Type 0 = IsOwn u by demands in
+          let old = notes_in c.args.self.now in
+          let plain = notes_in c.ask_plain_each.new.self in
+          let first = barred_brings u Plainly Called (λ n h. inl (plainly_called u set rs n h)) Own old plain c.ask_plain_each.ensures.adds in
+          let named = notes_in c.ask_each.new.self in
+          let seen_plain : (s : g.row.S.Denot) → Contains plain.seen s → Contains old.seen s ⊎ Called (to_see s) =
+          λ s h. ⊎_elim (λ was. inl was) (λ called. inr (inl (plainly_called u set rs (to_see s) called)))
+          (c.in_ok-ask_plain_each.ensures.step.called (to_see s) h) in
+          let second = Brings-trans u Called Own old plain named seen_plain first
+          (barred_brings u (IsNamedBy u vs) Called (λ n h. inr h) Own plain named c.ask_each.ensures.adds) in
+          second;
+      room = KeepsRoom-trans _ _ _ c.ask_plain_each.ensures.room c.ask_each.ensures.room;
+      is_true = c.ask_each.ensures.is_true;
+      step = IfOk-from_err c.from_residual-in_err-ask_each.result _ c.from_residual-in_err-ask_each.ensures.0;
+      read = IfOk-from_err c.from_residual-in_err-ask_each.result _ c.from_residual-in_err-ask_each.ensures.0;
+      refusal = IfErr-of c.from_residual-in_err-ask_each.result _ _ c.from_residual-in_err-ask_each.ensures.1 c.in_err-ask_each.ensures.refusal;
+    }
 
-pub returns-in_err-ask_each-clause-brings : goal.returns-in_err-ask_each-clause-brings
-returns-in_err-ask_each-clause-brings g c =
-    let u = g.D.Interner.universe c.args.provider.now in
-    let by = c.args.by in
-    let set = c.args.chosen.now.keys in
-    let rs = c.args.requirements.now in
-    let vs = c.args.constraints.now in
-    let demands : Demands = record { requirements = rs; constraints = vs } in
-    let Plainly : Call g.row.N.Denot g.row.S.Denot → Type 0 = λ n. (r : ConditionalRequirement) × Contains rs r × IsPlainlyNamed u r n in
-    let Called = IsDemanded u set demands in
-    let Own : Origin g.row.N.Denot g.row.S.Denot → Type 0 = IsOwn u by demands in
-    let old = notes_in c.args.self.now in
-    let plain = notes_in c.ask_plain_each.new.self in
-    let first = barred_brings u Plainly Called (λ n h. inl (plainly_called u set rs n h)) Own old plain c.ask_plain_each.ensures.adds in
-    let named = notes_in c.ask_each.new.self in
-    let seen_plain : (s : g.row.S.Denot) → Contains plain.seen s → Contains old.seen s ⊎ Called (to_see s) =
-    λ s h. ⊎_elim (λ was. inl was) (λ called. inr (inl (plainly_called u set rs (to_see s) called)))
-    (c.in_ok-ask_plain_each.ensures.step.called (to_see s) h) in
-    let second = Brings-trans u Called Own old plain named seen_plain first
-    (barred_brings u (IsNamedBy u vs) Called (λ n h. inr h) Own plain named c.ask_each.ensures.adds) in
-    second
+pub returns-in_err-read_requirements : goal.returns-in_err-read_requirements
+returns-in_err-read_requirements g c =
+    record {
+      brings = let u = g.D.Interner.universe c.args.provider.now in
+          let by = c.args.by in
+          let set = c.args.chosen.now.keys in
+          let rs = c.args.requirements.now in
+          let vs = c.args.constraints.now in
+          let demands : Demands = record { requirements = rs; constraints = vs } in
+          let Plainly : Call g.row.N.Denot g.row.S.Denot → Type 0 = λ n. (r : ConditionalRequirement) × Contains rs r × IsPlainlyNamed u r n in
+          let Called = IsDemanded u set demands in
+          let Own : Origin g.row.N.Denot g.row.S.Denot → Type 0 = IsOwn u by demands in
+          let old = notes_in c.args.self.now in
+          let plain = notes_in c.ask_plain_each.new.self in
+          let first = barred_brings u Plainly Called (λ n h. inl (plainly_called u set rs n h)) Own old plain c.ask_plain_each.ensures.adds in
+          let named = notes_in c.ask_each.new.self in
+          let seen_plain : (s : g.row.S.Denot) → Contains plain.seen s → Contains old.seen s ⊎ Called (to_see s) =
+          λ s h. ⊎_elim (λ was. inl was) (λ called. inr (inl (plainly_called u set rs (to_see s) called)))
+          (c.in_ok-ask_plain_each.ensures.step.called (to_see s) h) in
+          let second = Brings-trans u Called Own old plain named seen_plain first
+          (barred_brings u (IsNamedBy u vs) Called (λ n h. inr h) Own plain named c.ask_each.ensures.adds) in
+          let required = notes_in c.read_requirements.new.self in
+          let seen_named : (s : g.row.S.Denot) → Contains named.seen s → Contains old.seen s ⊎ Called (to_see s) =
+          λ s h. ⊎_elim (λ was. seen_plain s was) (λ called. inr (inr called)) (c.in_ok-ask_each.ensures.step.called (to_see s) h) in
+          let third = Brings-trans u Called Own old named required seen_named second
+          (Brings-weaker u (IsCalledByEach u set rs) Called (λ n h. inl h) (IsOwn u by (with_requirements rs)) Own
+          (IsOwn-within u by (with_requirements rs) demands (λ r h. h) (none_within vs)) named required c.read_requirements.ensures.brings) in
+          third;
+      room = KeepsRoom-trans _ _ _ c.ask_plain_each.ensures.room (KeepsRoom-trans _ _ _ c.ask_each.ensures.room c.read_requirements.ensures.room);
+      is_true = c.read_requirements.ensures.is_true;
+      step = IfOk-from_err c.from_residual-in_err-read_requirements.result _ c.from_residual-in_err-read_requirements.ensures.0;
+      read = IfOk-from_err c.from_residual-in_err-read_requirements.result _ c.from_residual-in_err-read_requirements.ensures.0;
+      refusal = IfErr-of c.from_residual-in_err-read_requirements.result _ _ c.from_residual-in_err-read_requirements.ensures.1
+          c.in_err-read_requirements.ensures.refusal;
+    }
 
-pub returns-in_err-read_requirements-clause-brings : goal.returns-in_err-read_requirements-clause-brings
-returns-in_err-read_requirements-clause-brings g c =
-    let u = g.D.Interner.universe c.args.provider.now in
-    let by = c.args.by in
-    let set = c.args.chosen.now.keys in
-    let rs = c.args.requirements.now in
-    let vs = c.args.constraints.now in
-    let demands : Demands = record { requirements = rs; constraints = vs } in
-    let Plainly : Call g.row.N.Denot g.row.S.Denot → Type 0 = λ n. (r : ConditionalRequirement) × Contains rs r × IsPlainlyNamed u r n in
-    let Called = IsDemanded u set demands in
-    let Own : Origin g.row.N.Denot g.row.S.Denot → Type 0 = IsOwn u by demands in
-    let old = notes_in c.args.self.now in
-    let plain = notes_in c.ask_plain_each.new.self in
-    let first = barred_brings u Plainly Called (λ n h. inl (plainly_called u set rs n h)) Own old plain c.ask_plain_each.ensures.adds in
-    let named = notes_in c.ask_each.new.self in
-    let seen_plain : (s : g.row.S.Denot) → Contains plain.seen s → Contains old.seen s ⊎ Called (to_see s) =
-    λ s h. ⊎_elim (λ was. inl was) (λ called. inr (inl (plainly_called u set rs (to_see s) called)))
-    (c.in_ok-ask_plain_each.ensures.step.called (to_see s) h) in
-    let second = Brings-trans u Called Own old plain named seen_plain first
-    (barred_brings u (IsNamedBy u vs) Called (λ n h. inr h) Own plain named c.ask_each.ensures.adds) in
-    let required = notes_in c.read_requirements.new.self in
-    let seen_named : (s : g.row.S.Denot) → Contains named.seen s → Contains old.seen s ⊎ Called (to_see s) =
-    λ s h. ⊎_elim (λ was. seen_plain s was) (λ called. inr (inr called)) (c.in_ok-ask_each.ensures.step.called (to_see s) h) in
-    let third = Brings-trans u Called Own old named required seen_named second
-    (Brings-weaker u (IsCalledByEach u set rs) Called (λ n h. inl h) (IsOwn u by (with_requirements rs)) Own
-    (IsOwn-within u by (with_requirements rs) demands (λ r h. h) (none_within vs)) named required c.read_requirements.ensures.brings) in
-    third
+pub returns-in_err-read_constraints : goal.returns-in_err-read_constraints
+returns-in_err-read_constraints g c =
+    record {
+      brings = let u = g.D.Interner.universe c.args.provider.now in
+          let by = c.args.by in
+          let set = c.args.chosen.now.keys in
+          let rs = c.args.requirements.now in
+          let vs = c.args.constraints.now in
+          let demands : Demands = record { requirements = rs; constraints = vs } in
+          let Plainly : Call g.row.N.Denot g.row.S.Denot → Type 0 = λ n. (r : ConditionalRequirement) × Contains rs r × IsPlainlyNamed u r n in
+          let Called = IsDemanded u set demands in
+          let Own : Origin g.row.N.Denot g.row.S.Denot → Type 0 = IsOwn u by demands in
+          let old = notes_in c.args.self.now in
+          let plain = notes_in c.ask_plain_each.new.self in
+          let first = barred_brings u Plainly Called (λ n h. inl (plainly_called u set rs n h)) Own old plain c.ask_plain_each.ensures.adds in
+          let named = notes_in c.ask_each.new.self in
+          let seen_plain : (s : g.row.S.Denot) → Contains plain.seen s → Contains old.seen s ⊎ Called (to_see s) =
+          λ s h. ⊎_elim (λ was. inl was) (λ called. inr (inl (plainly_called u set rs (to_see s) called)))
+          (c.in_ok-ask_plain_each.ensures.step.called (to_see s) h) in
+          let second = Brings-trans u Called Own old plain named seen_plain first
+          (barred_brings u (IsNamedBy u vs) Called (λ n h. inr h) Own plain named c.ask_each.ensures.adds) in
+          let required = notes_in c.read_requirements.new.self in
+          let seen_named : (s : g.row.S.Denot) → Contains named.seen s → Contains old.seen s ⊎ Called (to_see s) =
+          λ s h. ⊎_elim (λ was. seen_plain s was) (λ called. inr (inr called)) (c.in_ok-ask_each.ensures.step.called (to_see s) h) in
+          let third = Brings-trans u Called Own old named required seen_named second
+          (Brings-weaker u (IsCalledByEach u set rs) Called (λ n h. inl h) (IsOwn u by (with_requirements rs)) Own
+          (IsOwn-within u by (with_requirements rs) demands (λ r h. h) (none_within vs)) named required c.read_requirements.ensures.brings) in
+          let new = notes_in c.read_constraints.new.self in
+          let seen_required : (s : g.row.S.Denot) → Contains required.seen s → Contains old.seen s ⊎ Called (to_see s) =
+          λ s h. ⊎_elim (λ was. seen_named s was) (λ called. inr (inl called)) (c.in_ok-read_requirements.ensures.step.called (to_see s) h) in
+          Brings-trans u Called Own old required new seen_required third
+          (Brings-weaker u (IsNamedBy u vs) Called (λ n h. inr h) (IsOwn u by (with_constraints vs)) Own
+          (IsOwn-within u by (with_constraints vs) demands (none_within rs) (λ v h. h)) required new c.read_constraints.ensures.brings);
+      room = KeepsRoom-trans _ _ _ c.ask_plain_each.ensures.room (KeepsRoom-trans _ _ _ c.ask_each.ensures.room
+          (KeepsRoom-trans _ _ _ c.read_requirements.ensures.room c.read_constraints.ensures.room));
+      is_true = c.read_constraints.ensures.is_true;
+      step = IfOk-from_err c.from_residual-in_err-read_constraints.result _ c.from_residual-in_err-read_constraints.ensures.0;
+      read = IfOk-from_err c.from_residual-in_err-read_constraints.result _ c.from_residual-in_err-read_constraints.ensures.0;
+      refusal = IfErr-of c.from_residual-in_err-read_constraints.result _ _ c.from_residual-in_err-read_constraints.ensures.1
+          c.in_err-read_constraints.ensures.refusal;
+    }
 
-pub returns-in_err-read_constraints-clause-brings : goal.returns-in_err-read_constraints-clause-brings
-returns-in_err-read_constraints-clause-brings g c =
-    let u = g.D.Interner.universe c.args.provider.now in
-    let by = c.args.by in
-    let set = c.args.chosen.now.keys in
-    let rs = c.args.requirements.now in
-    let vs = c.args.constraints.now in
-    let demands : Demands = record { requirements = rs; constraints = vs } in
-    let Plainly : Call g.row.N.Denot g.row.S.Denot → Type 0 = λ n. (r : ConditionalRequirement) × Contains rs r × IsPlainlyNamed u r n in
-    let Called = IsDemanded u set demands in
-    let Own : Origin g.row.N.Denot g.row.S.Denot → Type 0 = IsOwn u by demands in
-    let old = notes_in c.args.self.now in
-    let plain = notes_in c.ask_plain_each.new.self in
-    let first = barred_brings u Plainly Called (λ n h. inl (plainly_called u set rs n h)) Own old plain c.ask_plain_each.ensures.adds in
-    let named = notes_in c.ask_each.new.self in
-    let seen_plain : (s : g.row.S.Denot) → Contains plain.seen s → Contains old.seen s ⊎ Called (to_see s) =
-    λ s h. ⊎_elim (λ was. inl was) (λ called. inr (inl (plainly_called u set rs (to_see s) called)))
-    (c.in_ok-ask_plain_each.ensures.step.called (to_see s) h) in
-    let second = Brings-trans u Called Own old plain named seen_plain first
-    (barred_brings u (IsNamedBy u vs) Called (λ n h. inr h) Own plain named c.ask_each.ensures.adds) in
-    let required = notes_in c.read_requirements.new.self in
-    let seen_named : (s : g.row.S.Denot) → Contains named.seen s → Contains old.seen s ⊎ Called (to_see s) =
-    λ s h. ⊎_elim (λ was. seen_plain s was) (λ called. inr (inr called)) (c.in_ok-ask_each.ensures.step.called (to_see s) h) in
-    let third = Brings-trans u Called Own old named required seen_named second
-    (Brings-weaker u (IsCalledByEach u set rs) Called (λ n h. inl h) (IsOwn u by (with_requirements rs)) Own
-    (IsOwn-within u by (with_requirements rs) demands (λ r h. h) (none_within vs)) named required c.read_requirements.ensures.brings) in
-    let new = notes_in c.read_constraints.new.self in
-    let seen_required : (s : g.row.S.Denot) → Contains required.seen s → Contains old.seen s ⊎ Called (to_see s) =
-    λ s h. ⊎_elim (λ was. seen_named s was) (λ called. inr (inl called)) (c.in_ok-read_requirements.ensures.step.called (to_see s) h) in
-    Brings-trans u Called Own old required new seen_required third
-    (Brings-weaker u (IsNamedBy u vs) Called (λ n h. inr h) (IsOwn u by (with_constraints vs)) Own
-    (IsOwn-within u by (with_constraints vs) demands (none_within rs) (λ v h. h)) required new c.read_constraints.ensures.brings)
-
-pub returns-clause-brings : goal.returns-clause-brings
-returns-clause-brings g c =
-    let u = g.D.Interner.universe c.args.provider.now in
-    let by = c.args.by in
-    let set = c.args.chosen.now.keys in
-    let rs = c.args.requirements.now in
-    let vs = c.args.constraints.now in
-    let demands : Demands = record { requirements = rs; constraints = vs } in
-    let Plainly : Call g.row.N.Denot g.row.S.Denot → Type 0 = λ n. (r : ConditionalRequirement) × Contains rs r × IsPlainlyNamed u r n in
-    let Called = IsDemanded u set demands in
-    let Own : Origin g.row.N.Denot g.row.S.Denot → Type 0 = IsOwn u by demands in
-    let old = notes_in c.args.self.now in
-    let plain = notes_in c.ask_plain_each.new.self in
-    let first = barred_brings u Plainly Called (λ n h. inl (plainly_called u set rs n h)) Own old plain c.ask_plain_each.ensures.adds in
-    let named = notes_in c.ask_each.new.self in
-    let seen_plain : (s : g.row.S.Denot) → Contains plain.seen s → Contains old.seen s ⊎ Called (to_see s) =
-    λ s h. ⊎_elim (λ was. inl was) (λ called. inr (inl (plainly_called u set rs (to_see s) called)))
-    (c.in_ok-ask_plain_each.ensures.step.called (to_see s) h) in
-    let second = Brings-trans u Called Own old plain named seen_plain first
-    (barred_brings u (IsNamedBy u vs) Called (λ n h. inr h) Own plain named c.ask_each.ensures.adds) in
-    let required = notes_in c.read_requirements.new.self in
-    let seen_named : (s : g.row.S.Denot) → Contains named.seen s → Contains old.seen s ⊎ Called (to_see s) =
-    λ s h. ⊎_elim (λ was. seen_plain s was) (λ called. inr (inr called)) (c.in_ok-ask_each.ensures.step.called (to_see s) h) in
-    let third = Brings-trans u Called Own old named required seen_named second
-    (Brings-weaker u (IsCalledByEach u set rs) Called (λ n h. inl h) (IsOwn u by (with_requirements rs)) Own
-    (IsOwn-within u by (with_requirements rs) demands (λ r h. h) (none_within vs)) named required c.read_requirements.ensures.brings) in
-    let new = notes_in c.read_constraints.new.self in
-    let seen_required : (s : g.row.S.Denot) → Contains required.seen s → Contains old.seen s ⊎ Called (to_see s) =
-    λ s h. ⊎_elim (λ was. seen_named s was) (λ called. inr (inl called)) (c.in_ok-read_requirements.ensures.step.called (to_see s) h) in
-    Brings-trans u Called Own old required new seen_required third
-    (Brings-weaker u (IsNamedBy u vs) Called (λ n h. inr h) (IsOwn u by (with_constraints vs)) Own
-    (IsOwn-within u by (with_constraints vs) demands (none_within rs) (λ v h. h)) required new c.read_constraints.ensures.brings)
-
-pub returns-clause-is_true : goal.returns-clause-is_true
-returns-clause-is_true g c = c.read_constraints.ensures.is_true
-
-pub returns-clause-room : goal.returns-clause-room
-returns-clause-room g c =
-    KeepsRoom-trans _ _ _ c.ask_plain_each.ensures.room (KeepsRoom-trans _ _ _ c.ask_each.ensures.room
-    (KeepsRoom-trans _ _ _ c.read_requirements.ensures.room c.read_constraints.ensures.room))
-
-pub returns-in_err-read_constraints-clause-room : goal.returns-in_err-read_constraints-clause-room
-returns-in_err-read_constraints-clause-room g c =
-    KeepsRoom-trans _ _ _ c.ask_plain_each.ensures.room (KeepsRoom-trans _ _ _ c.ask_each.ensures.room
-    (KeepsRoom-trans _ _ _ c.read_requirements.ensures.room c.read_constraints.ensures.room))
-
-pub returns-in_err-read_requirements-clause-room : goal.returns-in_err-read_requirements-clause-room
-returns-in_err-read_requirements-clause-room g c =
-    KeepsRoom-trans _ _ _ c.ask_plain_each.ensures.room (KeepsRoom-trans _ _ _ c.ask_each.ensures.room c.read_requirements.ensures.room)
-
-pub returns-in_err-ask_each-clause-room : goal.returns-in_err-ask_each-clause-room
-returns-in_err-ask_each-clause-room g c = KeepsRoom-trans _ _ _ c.ask_plain_each.ensures.room c.ask_each.ensures.room
-
-pub returns-clause-refusal : goal.returns-clause-refusal
-returns-clause-refusal g c = tt
+pub returns : goal.returns
+returns g c =
+    record {
+      step = let u = g.D.Interner.universe c.args.provider.now in
+          let by = c.args.by in
+          let set = c.args.chosen.now.keys in
+          let rs = c.args.requirements.now in
+          let vs = c.args.constraints.now in
+          let demands : Demands = record { requirements = rs; constraints = vs } in
+          let Premise : Demands → Type 0 = λ root. demands_by u root by ≡ demands in
+          let AllAsk : Demands → Type 0 = λ d. All (λ r. Contains d.requirements r) rs in
+          let AllWithin : Demands → Type 0 = λ d. All (λ v. Contains d.constraints v) vs in
+          let Plainly : Call g.row.N.Denot g.row.S.Denot → Type 0 = λ n. (r : ConditionalRequirement) × Contains rs r × IsPlainlyNamed u r n in
+          let Demanded = IsDemanded u set demands in
+          let Defers = IsUnmet u set by in
+          let asked = IsAskStep-trans u Demanded Premise _ _ _
+          (IsAskStep-weaker u Plainly Demanded (λ n h. inl (plainly_called u set rs n h)) (λ root. ⊤) Premise (λ root _. tt) _ _
+          c.in_ok-ask_plain_each.ensures.step)
+          (IsAskStep-weaker u (IsNamedBy u vs) Demanded (λ n h. inr h) (λ root. ⊤) Premise (λ root _. tt) _ _ c.in_ok-ask_each.ensures.step) in
+          let required = IsReadStep-trans u Defers Demanded Premise _ _ _ (IsReadStep-of u Defers Demanded Premise _ _ asked)
+          (IsReadStep-weaker u Defers (IsCalledByEach u set rs) Demanded (λ n h. inl h) (λ root. All (λ r. HasRequirement u by r root) rs) Premise (λ root same.
+          subst AllAsk (sym same) (All-contains_itself rs)) _ _ c.in_ok-read_requirements.ensures.step) in
+          IsReadStep-trans u Defers Demanded Premise _ _ _ required
+          (IsReadStep-of u Defers Demanded Premise _ _
+          (IsAskStep-weaker u (IsNamedBy u vs) Demanded (λ n h. inr h) (λ root. All (λ v. HasConstraint u by v root) vs) Premise (λ root same.
+          subst AllWithin (sym same) (All-contains_itself vs)) _ _ c.in_ok-read_constraints.ensures.step));
+      read = let u = g.D.Interner.universe c.args.provider.now in
+          let by = c.args.by in
+          let mid = notes_in c.read_requirements.new.self in
+          let new = notes_in c.read_constraints.new.self in
+          let step = c.in_ok-read_constraints.ensures.step in
+          let left : (e : Deferred g.row.S.Denot) → IsLeft mid e → IsLeft new e = λ e h. let Has : List (Option (Deferred g.row.S.Denot)) → Type 0 =
+          λ list. Contains list (Some e) in subst Has (sym step.deferred) h in
+          record {
+            requirements = All-weaker (IsReadRequirement u mid.kinds (IsLeft mid) by) (IsReadRequirement u new.kinds (IsLeft new) by) (λ r h.
+                IsReadRequirement-within u _ _ step.kinds (IsLeft mid) (IsLeft new) left by r h) c.args.requirements.now c.in_ok-read_requirements.ensures.read;
+            constraints = c.in_ok-read_constraints.ensures.read;
+            packages = c.in_ok-read_constraints.ensures.asked;
+          };
+      brings = let u = g.D.Interner.universe c.args.provider.now in
+          let by = c.args.by in
+          let set = c.args.chosen.now.keys in
+          let rs = c.args.requirements.now in
+          let vs = c.args.constraints.now in
+          let demands : Demands = record { requirements = rs; constraints = vs } in
+          let Plainly : Call g.row.N.Denot g.row.S.Denot → Type 0 = λ n. (r : ConditionalRequirement) × Contains rs r × IsPlainlyNamed u r n in
+          let Called = IsDemanded u set demands in
+          let Own : Origin g.row.N.Denot g.row.S.Denot → Type 0 = IsOwn u by demands in
+          let old = notes_in c.args.self.now in
+          let plain = notes_in c.ask_plain_each.new.self in
+          let first = barred_brings u Plainly Called (λ n h. inl (plainly_called u set rs n h)) Own old plain c.ask_plain_each.ensures.adds in
+          let named = notes_in c.ask_each.new.self in
+          let seen_plain : (s : g.row.S.Denot) → Contains plain.seen s → Contains old.seen s ⊎ Called (to_see s) =
+          λ s h. ⊎_elim (λ was. inl was) (λ called. inr (inl (plainly_called u set rs (to_see s) called)))
+          (c.in_ok-ask_plain_each.ensures.step.called (to_see s) h) in
+          let second = Brings-trans u Called Own old plain named seen_plain first
+          (barred_brings u (IsNamedBy u vs) Called (λ n h. inr h) Own plain named c.ask_each.ensures.adds) in
+          let required = notes_in c.read_requirements.new.self in
+          let seen_named : (s : g.row.S.Denot) → Contains named.seen s → Contains old.seen s ⊎ Called (to_see s) =
+          λ s h. ⊎_elim (λ was. seen_plain s was) (λ called. inr (inr called)) (c.in_ok-ask_each.ensures.step.called (to_see s) h) in
+          let third = Brings-trans u Called Own old named required seen_named second
+          (Brings-weaker u (IsCalledByEach u set rs) Called (λ n h. inl h) (IsOwn u by (with_requirements rs)) Own
+          (IsOwn-within u by (with_requirements rs) demands (λ r h. h) (none_within vs)) named required c.read_requirements.ensures.brings) in
+          let new = notes_in c.read_constraints.new.self in
+          let seen_required : (s : g.row.S.Denot) → Contains required.seen s → Contains old.seen s ⊎ Called (to_see s) =
+          λ s h. ⊎_elim (λ was. seen_named s was) (λ called. inr (inl called)) (c.in_ok-read_requirements.ensures.step.called (to_see s) h) in
+          Brings-trans u Called Own old required new seen_required third
+          (Brings-weaker u (IsNamedBy u vs) Called (λ n h. inr h) (IsOwn u by (with_constraints vs)) Own
+          (IsOwn-within u by (with_constraints vs) demands (none_within rs) (λ v h. h)) required new c.read_constraints.ensures.brings);
+      is_true = c.read_constraints.ensures.is_true;
+      room = KeepsRoom-trans _ _ _ c.ask_plain_each.ensures.room (KeepsRoom-trans _ _ _ c.ask_each.ensures.room
+          (KeepsRoom-trans _ _ _ c.read_requirements.ensures.room c.read_constraints.ensures.room));
+      refusal = tt;
+    }

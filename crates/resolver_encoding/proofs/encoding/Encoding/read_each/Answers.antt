@@ -11,11 +11,12 @@ use Rattle.resolver_clause_store.specs.Near.{IsNear}
 use Rattle.resolver_encoding.proofs.LedReading.{KeepsLed-same, KeepsLed-trans, led_read}
 use Rattle.resolver_encoding.proofs.ReachLemmas.{near_read}
 use Rattle.resolver_encoding.proofs.RoomLemmas.{KeepsRoom-same, KeepsRoom-trans}
+use Rattle.std.proofs.lemmas.Result.{IfOk-from_err}
+use Rattle.resolver_encoding.proofs.RefusalLemmas.{IfErr-of}
 use Rattle.resolver_encoding.proofs.encoding.Encoding.read_each.Goals as goal
 
 pub loop-place-init : goal.loop-place-init
-loop-place-init g c =
-    let u = g.D.Interner.universe c.args.provider.now in
+loop-place-init g c = let u = g.D.Interner.universe c.args.provider.now in
     let set = c.args.chosen.now.keys in
     record {
       led = KeepsLed-same u set (notes_in c.args.self.now);
@@ -31,8 +32,7 @@ pub read_new-requires-clause-encoding : goal.read_new-requires-clause-encoding
 read_new-requires-clause-encoding g c = let half = c.loop-place.invariant.half in record { root = half.root; premise = tt; encoding = half.half.encoding }
 
 pub read_new-requires-clause-known : goal.read_new-requires-clause-known
-read_new-requires-clause-known g c =
-    let old = notes_in c.args.self.now in
+read_new-requires-clause-known g c = let old = notes_in c.args.self.now in
     let set = c.args.chosen.now.keys in
     let s = c.index-as_slice-place.result in
     let At : List g.row.S.Denot → Type 0 = λ list. s ≡ get_or list c.loop-place.place s in
@@ -41,8 +41,7 @@ read_new-requires-clause-known g c =
     (All-contains (λ t. Contains old.origins (Solvable t)) set s c.requires.known inside)
 
 pub loop-place-preserved : goal.loop-place-preserved
-loop-place-preserved g c =
-    let u = g.D.Interner.universe c.args.provider.now in
+loop-place-preserved g c = let u = g.D.Interner.universe c.args.provider.now in
     let set = c.args.chosen.now.keys in
     let before = c.loop-place.invariant in
     let reading = c.in_ok-read_new.ensures.reading in
@@ -81,33 +80,45 @@ returns-then-before-len-clause-here g c =
     AreEach-done (Contains (notes_in c.loop-place.self).read) c.args.chosen.now.keys c.args.from c.loop-place.place (omega arith) c.loop-place.invariant.read
 
 pub returns-then-before-len-clause-fit : goal.returns-then-before-len-clause-fit
-returns-then-before-len-clause-fit g c =
-    λ known. seen_fit g.S.PartialEq.eq g.met.D.Interner.solvables_are_values g.met.S.Eq.laws c.loop-place.self.read.keys
+returns-then-before-len-clause-fit g c = λ known. seen_fit g.S.PartialEq.eq g.met.D.Interner.solvables_are_values g.met.S.Eq.laws c.loop-place.self.read.keys
     (notes_in c.loop-place.self).origins c.len.ensures.unique known
 
-pub returns-clause-here : goal.returns-clause-here
-returns-clause-here g c = AreEach-done (Contains (notes_in c.loop-place.self).read) c.args.chosen.now.keys c.args.from c.loop-place.place
-    (omega arith) c.loop-place.invariant.read
+pub returns-in_err-read_new : goal.returns-in_err-read_new
+returns-in_err-read_new g c =
+    record {
+      led = let u = g.D.Interner.universe c.args.provider.now in
+          let set = c.args.chosen.now.keys in
+          let here = c.loop-place.invariant in
+          let s = c.index-as_slice-place.result in
+          let At : List g.row.S.Denot → Type 0 = λ list. s ≡ get_or list c.loop-place.place s in
+          let inside : Contains set s = (c.loop-place.place, omega arith, sym (subst At c.as_slice.ensures.keys c.index-as_slice-place.is)) in
+          let one = notes_in c.args.self.now in
+          let two = notes_in c.loop-place.self in
+          let three = notes_in c.read_new.new.self in
+          KeepsLed-trans u set one two three
+          (λ root seeds packages near all.
+          near_read u root seeds packages set (Contains set) one two here.reading near all (λ t h. All-contains (IsNear u root seeds) set t all h))
+          here.led (led_read u set s two three (λ root seeds packages near all. All-contains (IsNear u root seeds) set s all inside) c.read_new.ensures.brings);
+      room = KeepsRoom-trans _ _ _ c.loop-place.invariant.room c.read_new.ensures.room;
+      is_true = c.read_new.ensures.is_true;
+      reading = IfOk-from_err c.from_residual.result _ c.from_residual.ensures.0;
+      here = IfOk-from_err c.from_residual.result _ c.from_residual.ensures.0;
+      any_new = IfOk-from_err c.from_residual.result _ c.from_residual.ensures.0;
+      fit = IfOk-from_err c.from_residual.result _ c.from_residual.ensures.0;
+      refusal = IfErr-of c.from_residual.result _ _ c.from_residual.ensures.1 c.in_err-read_new.ensures.refusal;
+    }
 
-pub returns-clause-fit : goal.returns-clause-fit
-returns-clause-fit g c = λ known. seen_fit g.S.PartialEq.eq g.met.D.Interner.solvables_are_values g.met.S.Eq.laws c.loop-place.self.read.keys
-    (notes_in c.loop-place.self).origins c.len.ensures.unique known
-
-pub returns-clause-any_new : goal.returns-clause-any_new
-returns-clause-any_new g c = no_more_read _ _ c.loop-place.invariant.more (omega (arith, c.len.ensures.len, c.len-before.ensures.len))
-
-pub returns-in_err-read_new-clause-led : goal.returns-in_err-read_new-clause-led
-returns-in_err-read_new-clause-led g c =
-    let u = g.D.Interner.universe c.args.provider.now in
-    let set = c.args.chosen.now.keys in
-    let here = c.loop-place.invariant in
-    let s = c.index-as_slice-place.result in
-    let At : List g.row.S.Denot → Type 0 = λ list. s ≡ get_or list c.loop-place.place s in
-    let inside : Contains set s = (c.loop-place.place, omega arith, sym (subst At c.as_slice.ensures.keys c.index-as_slice-place.is)) in
-    let one = notes_in c.args.self.now in
-    let two = notes_in c.loop-place.self in
-    let three = notes_in c.read_new.new.self in
-    KeepsLed-trans u set one two three
-    (λ root seeds packages near all.
-    near_read u root seeds packages set (Contains set) one two here.reading near all (λ t h. All-contains (IsNear u root seeds) set t all h))
-    here.led (led_read u set s two three (λ root seeds packages near all. All-contains (IsNear u root seeds) set s all inside) c.read_new.ensures.brings)
+pub returns : goal.returns
+returns g c =
+    record {
+      here = AreEach-done (Contains (notes_in c.loop-place.self).read) c.args.chosen.now.keys c.args.from c.loop-place.place
+          (omega arith) c.loop-place.invariant.read;
+      fit = λ known. seen_fit g.S.PartialEq.eq g.met.D.Interner.solvables_are_values g.met.S.Eq.laws c.loop-place.self.read.keys
+          (notes_in c.loop-place.self).origins c.len.ensures.unique known;
+      any_new = no_more_read _ _ c.loop-place.invariant.more (omega (arith, c.len.ensures.len, c.len-before.ensures.len));
+      room = c.loop-place.invariant.room;
+      is_true = c.loop-place.invariant.is_true;
+      reading = c.loop-place.invariant.reading;
+      led = c.loop-place.invariant.led;
+      refusal = tt;
+    }

@@ -13,6 +13,10 @@ use Rattle.resolver_clause_store.specs.declared.Origin.{Origin}
 use Rattle.resolver_clause_store.specs.declared.Origin.TheVariants.{Solvable as SolvableOrigin}
 use Rattle.resolver_encoding.specs.Led.{Brings, IsOwn, own_itself}
 use Rattle.resolver_encoding.proofs.LedLemmas.{Brings-same, own_brings}
+use Rattle.std.proofs.lemmas.Result.{IfOk-from_err}
+use Rattle.resolver_encoding.proofs.RefusalLemmas.{IfErr-of}
+use Rattle.resolver_encoding.proofs.RefusalLemmas.{IfErr-stop}
+use Rattle.resolver_encoding.proofs.RoomLemmas.{KeepsRoom-same}
 use Rattle.resolver_encoding.proofs.encoding.Encoding.read_solvable.Goals as goal
 
 demands_known : (d : Demands) (needs : Needs) → known d ≡ needs → demands_of needs ≡ d
@@ -21,8 +25,7 @@ demands_known d needs is =
     subst Says is refl
 
 pub read_demands-requires-clause-encoding : goal.read_demands-requires-clause-encoding
-read_demands-requires-clause-encoding g c =
-    let u = g.D.Interner.universe c.args.provider.now in
+read_demands-requires-clause-encoding g c = let u = g.D.Interner.universe c.args.provider.now in
     let answer = rw c.in-Known.is at (c.dependencies.ensures u c.fetch_dependencies.ensures.is_true) in
     let copied_requirements = c.deref-in-Known-2.ensures.value ∙ c.in_ok-requirements-in-Known.ensures.items ∙ c.deref.ensures.value in
     let copied_constraints = c.deref-in-Known-3.ensures.value ∙ c.in_ok-constraints-in-Known.ensures.items ∙ c.deref-in-Known.ensures.value in
@@ -38,158 +41,187 @@ read_demands-requires-clause-encoding g c =
     demands_by u root (Solvable c.args.solvable) ≡ record { requirements = c.deref-in-Known-2.result.now; constraints = c.deref-in-Known-3.result.now })
     (λ root _. demands_known _ _ answer ∙ sym copied) (notes_in c.args.self.now) c.requires.encoding
 
-pub returns-in_ok-forbid_unknown-in-Unknown-clause-step : goal.returns-in_ok-forbid_unknown-in-Unknown-clause-step
-returns-in_ok-forbid_unknown-in-Unknown-clause-step g c =
-    let u = g.D.Interner.universe c.args.provider.now in
-    let set = c.args.chosen.now.keys in
-    let Demanded = IsDemanded u set (demands_of (u.needs c.args.solvable)) in
-    IsReadStep-of u (IsUnmet u set (Solvable c.args.solvable)) Demanded (λ root. ⊤) _ _
-    (IsAskStep-of u Demanded (λ root. ⊤) _ _ c.in_ok-forbid_unknown-in-Unknown.ensures.step)
+pub returns-in_err-fetch_dependencies : goal.returns-in_err-fetch_dependencies
+returns-in_err-fetch_dependencies g c =
+    record {
+      brings = let u = g.D.Interner.universe c.args.provider.now in
+          let s = c.args.solvable in
+          let set = c.args.chosen.now.keys in
+          let old = notes_in c.args.self.now in
+          let needed = demands_of (u.needs s) in
+          let Called = IsDemanded u set needed in
+          let Own : Origin g.row.N.Denot g.row.S.Denot → Type 0 = IsOwn u (Solvable s) needed in
+          Brings-same u Called Own old;
+      room = KeepsRoom-same _ c.requires.bounded;
+      is_true = c.fetch_dependencies.ensures.is_true;
+      step = IfOk-from_err c.from_residual.result _ c.from_residual.ensures.0;
+      read = IfOk-from_err c.from_residual.result _ c.from_residual.ensures.0;
+      refusal = IfErr-stop c.from_residual.result (g.D.DependencyProvider.may_cancel c.args.provider.now) _
+          c.in_err-fetch_dependencies.field-0.0 c.from_residual.ensures.1 c.in_err-fetch_dependencies.ensures.refusal;
+    }
 
-pub returns-in_ok-read_demands-in-Known-clause-step : goal.returns-in_ok-read_demands-in-Known-clause-step
-returns-in_ok-read_demands-in-Known-clause-step g c =
-    let u = g.D.Interner.universe c.args.provider.now in
-    let set = c.args.chosen.now.keys in
-    let answer = rw c.in-Known.is at (c.dependencies.ensures u c.fetch_dependencies.ensures.is_true) in
-    let copied_requirements = c.deref-in-Known-2.ensures.value ∙ c.in_ok-requirements-in-Known.ensures.items ∙ c.deref.ensures.value in
-    let copied_constraints = c.deref-in-Known-3.ensures.value ∙ c.in_ok-constraints-in-Known.ensures.items ∙ c.deref-in-Known.ensures.value in
-    let demands : Demands = record { requirements = c.deref-in-Known-2.result.now; constraints = c.deref-in-Known-3.result.now } in
-    let copied : demands ≡ record { requirements = c.in-Known.known.requirements.items; constraints = c.in-Known.known.constrains.items } =
-    λ i. record { requirements = copied_requirements i; constraints = copied_constraints i } in
-    let same : demands_of (u.needs c.args.solvable) ≡ demands = demands_known _ _ answer ∙ sym copied in
-    let Demanded : Call g.row.N.Denot g.row.S.Denot → Demands → Type 0 = λ n d. IsDemanded u set d n in
-    IsReadStep-weaker u (IsUnmet u set (Solvable c.args.solvable)) (IsDemanded u set demands) (IsDemanded u set (demands_of (u.needs c.args.solvable))) (λ n h.
-    subst (Demanded n) (sym same) h)
-    (λ root. demands_by u root (Solvable c.args.solvable) ≡ demands) (λ root. ⊤) (λ root _. same) _ _ c.in_ok-read_demands-in-Known.ensures.step
+pub returns-in_err-requirements-in-Known : goal.returns-in_err-requirements-in-Known
+returns-in_err-requirements-in-Known g c =
+    record {
+      brings = let u = g.D.Interner.universe c.args.provider.now in
+          let s = c.args.solvable in
+          let set = c.args.chosen.now.keys in
+          let old = notes_in c.args.self.now in
+          let needed = demands_of (u.needs s) in
+          let Called = IsDemanded u set needed in
+          let Own : Origin g.row.N.Denot g.row.S.Denot → Type 0 = IsOwn u (Solvable s) needed in
+          Brings-same u Called Own old;
+      room = KeepsRoom-same _ c.requires.bounded;
+      is_true = c.fetch_dependencies.ensures.is_true;
+      step = IfOk-from_err c.from_residual-in_err-requirements-in-Known.result _ c.from_residual-in_err-requirements-in-Known.ensures.0;
+      read = IfOk-from_err c.from_residual-in_err-requirements-in-Known.result _ c.from_residual-in_err-requirements-in-Known.ensures.0;
+      refusal = IfErr-of c.from_residual-in_err-requirements-in-Known.result _ _ c.from_residual-in_err-requirements-in-Known.ensures.1 tt;
+    }
 
-pub returns-in_err-fetch_dependencies-clause-brings : goal.returns-in_err-fetch_dependencies-clause-brings
-returns-in_err-fetch_dependencies-clause-brings g c =
-    let u = g.D.Interner.universe c.args.provider.now in
-    let s = c.args.solvable in
-    let set = c.args.chosen.now.keys in
-    let old = notes_in c.args.self.now in
-    let needed = demands_of (u.needs s) in
-    let Called = IsDemanded u set needed in
-    let Own : Origin g.row.N.Denot g.row.S.Denot → Type 0 = IsOwn u (Solvable s) needed in
-    Brings-same u Called Own old
+pub returns-in_err-constraints-in-Known : goal.returns-in_err-constraints-in-Known
+returns-in_err-constraints-in-Known g c =
+    record {
+      brings = let u = g.D.Interner.universe c.args.provider.now in
+          let s = c.args.solvable in
+          let set = c.args.chosen.now.keys in
+          let old = notes_in c.args.self.now in
+          let needed = demands_of (u.needs s) in
+          let Called = IsDemanded u set needed in
+          let Own : Origin g.row.N.Denot g.row.S.Denot → Type 0 = IsOwn u (Solvable s) needed in
+          Brings-same u Called Own old;
+      room = KeepsRoom-same _ c.requires.bounded;
+      is_true = c.fetch_dependencies.ensures.is_true;
+      step = IfOk-from_err c.from_residual-in_err-constraints-in-Known.result _ c.from_residual-in_err-constraints-in-Known.ensures.0;
+      read = IfOk-from_err c.from_residual-in_err-constraints-in-Known.result _ c.from_residual-in_err-constraints-in-Known.ensures.0;
+      refusal = IfErr-of c.from_residual-in_err-constraints-in-Known.result _ _ c.from_residual-in_err-constraints-in-Known.ensures.1 tt;
+    }
 
-pub returns-in_err-forbid_unknown-in-Unknown-clause-brings : goal.returns-in_err-forbid_unknown-in-Unknown-clause-brings
-returns-in_err-forbid_unknown-in-Unknown-clause-brings g c =
-    let u = g.D.Interner.universe c.args.provider.now in
-    let s = c.args.solvable in
-    let set = c.args.chosen.now.keys in
-    let old = notes_in c.args.self.now in
-    let needed = demands_of (u.needs s) in
-    let Called = IsDemanded u set needed in
-    let Own : Origin g.row.N.Denot g.row.S.Denot → Type 0 = IsOwn u (Solvable s) needed in
-    own_brings u Called Own (λ o. o ≡ SolvableOrigin s) old (notes_in c.forbid_unknown.new.self) (λ o is. own_itself is) c.forbid_unknown.ensures.adds
+pub returns-in_err-forbid_unknown-in-Unknown : goal.returns-in_err-forbid_unknown-in-Unknown
+returns-in_err-forbid_unknown-in-Unknown g c =
+    record {
+      brings = let u = g.D.Interner.universe c.args.provider.now in
+          let s = c.args.solvable in
+          let set = c.args.chosen.now.keys in
+          let old = notes_in c.args.self.now in
+          let needed = demands_of (u.needs s) in
+          let Called = IsDemanded u set needed in
+          let Own : Origin g.row.N.Denot g.row.S.Denot → Type 0 = IsOwn u (Solvable s) needed in
+          own_brings u Called Own (λ o. o ≡ SolvableOrigin s) old (notes_in c.forbid_unknown.new.self) (λ o is. own_itself is) c.forbid_unknown.ensures.adds;
+      room = c.forbid_unknown.ensures.room;
+      is_true = c.fetch_dependencies.ensures.is_true;
+      step = IfOk-from_err c.from_residual-in_err-forbid_unknown-in-Unknown.result _ c.from_residual-in_err-forbid_unknown-in-Unknown.ensures.0;
+      read = IfOk-from_err c.from_residual-in_err-forbid_unknown-in-Unknown.result _ c.from_residual-in_err-forbid_unknown-in-Unknown.ensures.0;
+      refusal = IfErr-of c.from_residual-in_err-forbid_unknown-in-Unknown.result _ _ c.from_residual-in_err-forbid_unknown-in-Unknown.ensures.1
+          c.in_err-forbid_unknown-in-Unknown.ensures.refusal;
+    }
 
-pub returns-in_ok-forbid_unknown-in-Unknown-clause-brings : goal.returns-in_ok-forbid_unknown-in-Unknown-clause-brings
-returns-in_ok-forbid_unknown-in-Unknown-clause-brings g c =
-    let u = g.D.Interner.universe c.args.provider.now in
-    let s = c.args.solvable in
-    let set = c.args.chosen.now.keys in
-    let old = notes_in c.args.self.now in
-    let needed = demands_of (u.needs s) in
-    let Called = IsDemanded u set needed in
-    let Own : Origin g.row.N.Denot g.row.S.Denot → Type 0 = IsOwn u (Solvable s) needed in
-    own_brings u Called Own (λ o. o ≡ SolvableOrigin s) old (notes_in c.forbid_unknown.new.self) (λ o is. own_itself is) c.forbid_unknown.ensures.adds
+pub returns-in_err-read_demands-in-Known : goal.returns-in_err-read_demands-in-Known
+returns-in_err-read_demands-in-Known g c =
+    record {
+      brings = let u = g.D.Interner.universe c.args.provider.now in
+          let s = c.args.solvable in
+          let set = c.args.chosen.now.keys in
+          let old = notes_in c.args.self.now in
+          let needed = demands_of (u.needs s) in
+          let Called = IsDemanded u set needed in
+          let Own : Origin g.row.N.Denot g.row.S.Denot → Type 0 = IsOwn u (Solvable s) needed in
+          let answer = rw c.in-Known.is at (c.dependencies.ensures u c.fetch_dependencies.ensures.is_true) in
+          let copied_requirements = c.deref-in-Known-2.ensures.value ∙ c.in_ok-requirements-in-Known.ensures.items ∙ c.deref.ensures.value in
+          let copied_constraints = c.deref-in-Known-3.ensures.value ∙ c.in_ok-constraints-in-Known.ensures.items ∙ c.deref-in-Known.ensures.value in
+          let demands : Demands = record { requirements = c.deref-in-Known-2.result.now; constraints = c.deref-in-Known-3.result.now } in
+          let copied : demands ≡ record { requirements = c.in-Known.known.requirements.items; constraints = c.in-Known.known.constrains.items } =
+          λ i. record { requirements = copied_requirements i; constraints = copied_constraints i } in
+          let same : needed ≡ demands = demands_known _ _ answer ∙ sym copied in
+          let new = notes_in c.read_demands.new.self in
+          let Brought : Demands → Type 0 = λ d. Brings u (IsDemanded u set d) (IsOwn u (Solvable s) d) old new in
+          subst Brought (sym same) c.read_demands.ensures.brings;
+      room = c.read_demands.ensures.room;
+      is_true = c.read_demands.ensures.is_true;
+      step = IfOk-from_err c.from_residual-in_err-read_demands-in-Known.result _ c.from_residual-in_err-read_demands-in-Known.ensures.0;
+      read = IfOk-from_err c.from_residual-in_err-read_demands-in-Known.result _ c.from_residual-in_err-read_demands-in-Known.ensures.0;
+      refusal = IfErr-of c.from_residual-in_err-read_demands-in-Known.result _ _ c.from_residual-in_err-read_demands-in-Known.ensures.1
+          c.in_err-read_demands-in-Known.ensures.refusal;
+    }
 
-pub returns-in_err-requirements-in-Known-clause-brings : goal.returns-in_err-requirements-in-Known-clause-brings
-returns-in_err-requirements-in-Known-clause-brings g c =
-    let u = g.D.Interner.universe c.args.provider.now in
-    let s = c.args.solvable in
-    let set = c.args.chosen.now.keys in
-    let old = notes_in c.args.self.now in
-    let needed = demands_of (u.needs s) in
-    let Called = IsDemanded u set needed in
-    let Own : Origin g.row.N.Denot g.row.S.Denot → Type 0 = IsOwn u (Solvable s) needed in
-    Brings-same u Called Own old
+pub returns-in_ok-forbid_unknown-in-Unknown : goal.returns-in_ok-forbid_unknown-in-Unknown
+returns-in_ok-forbid_unknown-in-Unknown g c =
+    record {
+      step = let u = g.D.Interner.universe c.args.provider.now in
+          let set = c.args.chosen.now.keys in
+          let Demanded = IsDemanded u set (demands_of (u.needs c.args.solvable)) in
+          IsReadStep-of u (IsUnmet u set (Solvable c.args.solvable)) Demanded (λ root. ⊤) _ _
+          (IsAskStep-of u Demanded (λ root. ⊤) _ _ c.in_ok-forbid_unknown-in-Unknown.ensures.step);
+      brings = let u = g.D.Interner.universe c.args.provider.now in
+          let s = c.args.solvable in
+          let set = c.args.chosen.now.keys in
+          let old = notes_in c.args.self.now in
+          let needed = demands_of (u.needs s) in
+          let Called = IsDemanded u set needed in
+          let Own : Origin g.row.N.Denot g.row.S.Denot → Type 0 = IsOwn u (Solvable s) needed in
+          own_brings u Called Own (λ o. o ≡ SolvableOrigin s) old (notes_in c.forbid_unknown.new.self) (λ o is. own_itself is) c.forbid_unknown.ensures.adds;
+      is_true = c.fetch_dependencies.ensures.is_true;
+      room = c.forbid_unknown.ensures.room;
+      refusal = tt;
+      read = let u = g.D.Interner.universe c.args.provider.now in
+          let answer = rw c.in-Unknown.is at (c.dependencies.ensures u c.fetch_dependencies.ensures.is_true) in
+          let Read : Needs → Type 0 = λ needs. AreNeedsRead u (notes_in c.forbid_unknown.new.self) c.args.solvable needs in
+          subst Read answer c.in_ok-forbid_unknown-in-Unknown.ensures.forbidden;
+    }
 
-pub returns-in_err-constraints-in-Known-clause-brings : goal.returns-in_err-constraints-in-Known-clause-brings
-returns-in_err-constraints-in-Known-clause-brings g c =
-    let u = g.D.Interner.universe c.args.provider.now in
-    let s = c.args.solvable in
-    let set = c.args.chosen.now.keys in
-    let old = notes_in c.args.self.now in
-    let needed = demands_of (u.needs s) in
-    let Called = IsDemanded u set needed in
-    let Own : Origin g.row.N.Denot g.row.S.Denot → Type 0 = IsOwn u (Solvable s) needed in
-    Brings-same u Called Own old
+pub returns-in_ok-read_demands-in-Known : goal.returns-in_ok-read_demands-in-Known
+returns-in_ok-read_demands-in-Known g c =
+    record {
+      step = let u = g.D.Interner.universe c.args.provider.now in
+          let set = c.args.chosen.now.keys in
+          let answer = rw c.in-Known.is at (c.dependencies.ensures u c.fetch_dependencies.ensures.is_true) in
+          let copied_requirements = c.deref-in-Known-2.ensures.value ∙ c.in_ok-requirements-in-Known.ensures.items ∙ c.deref.ensures.value in
+          let copied_constraints = c.deref-in-Known-3.ensures.value ∙ c.in_ok-constraints-in-Known.ensures.items ∙ c.deref-in-Known.ensures.value in
+          let demands : Demands = record { requirements = c.deref-in-Known-2.result.now; constraints = c.deref-in-Known-3.result.now } in
+          let copied : demands ≡ record { requirements = c.in-Known.known.requirements.items; constraints = c.in-Known.known.constrains.items } =
+          λ i. record { requirements = copied_requirements i; constraints = copied_constraints i } in
+          let same : demands_of (u.needs c.args.solvable) ≡ demands = demands_known _ _ answer ∙ sym copied in
+          let Demanded : Call g.row.N.Denot g.row.S.Denot → Demands → Type 0 = λ n d. IsDemanded u set d n in
+          IsReadStep-weaker u (IsUnmet u set (Solvable c.args.solvable)) (IsDemanded u set demands) (IsDemanded u set (demands_of (u.needs c.args.solvable)))
+          (λ n h.
+          subst (Demanded n) (sym same) h)
+          (λ root. demands_by u root (Solvable c.args.solvable) ≡ demands) (λ root. ⊤) (λ root _. same) _ _ c.in_ok-read_demands-in-Known.ensures.step;
+      brings = let u = g.D.Interner.universe c.args.provider.now in
+          let s = c.args.solvable in
+          let set = c.args.chosen.now.keys in
+          let old = notes_in c.args.self.now in
+          let needed = demands_of (u.needs s) in
+          let Called = IsDemanded u set needed in
+          let Own : Origin g.row.N.Denot g.row.S.Denot → Type 0 = IsOwn u (Solvable s) needed in
+          let answer = rw c.in-Known.is at (c.dependencies.ensures u c.fetch_dependencies.ensures.is_true) in
+          let copied_requirements = c.deref-in-Known-2.ensures.value ∙ c.in_ok-requirements-in-Known.ensures.items ∙ c.deref.ensures.value in
+          let copied_constraints = c.deref-in-Known-3.ensures.value ∙ c.in_ok-constraints-in-Known.ensures.items ∙ c.deref-in-Known.ensures.value in
+          let demands : Demands = record { requirements = c.deref-in-Known-2.result.now; constraints = c.deref-in-Known-3.result.now } in
+          let copied : demands ≡ record { requirements = c.in-Known.known.requirements.items; constraints = c.in-Known.known.constrains.items } =
+          λ i. record { requirements = copied_requirements i; constraints = copied_constraints i } in
+          let same : needed ≡ demands = demands_known _ _ answer ∙ sym copied in
+          let new = notes_in c.read_demands.new.self in
+          let Brought : Demands → Type 0 = λ d. Brings u (IsDemanded u set d) (IsOwn u (Solvable s) d) old new in
+          subst Brought (sym same) c.read_demands.ensures.brings;
+      is_true = c.read_demands.ensures.is_true;
+      room = c.read_demands.ensures.room;
+      refusal = tt;
+      read = let u = g.D.Interner.universe c.args.provider.now in
+          let answer = rw c.in-Known.is at (c.dependencies.ensures u c.fetch_dependencies.ensures.is_true) in
+          let copied_requirements = c.deref-in-Known-2.ensures.value ∙ c.in_ok-requirements-in-Known.ensures.items ∙ c.deref.ensures.value in
+          let copied_constraints = c.deref-in-Known-3.ensures.value ∙ c.in_ok-constraints-in-Known.ensures.items ∙ c.deref-in-Known.ensures.value in
+          let demands : Demands = record { requirements = c.deref-in-Known-2.result.now; constraints = c.deref-in-Known-3.result.now } in
+          let copied : demands ≡ record { requirements = c.in-Known.known.requirements.items; constraints = c.in-Known.known.constrains.items } =
+          λ i. record { requirements = copied_requirements i; constraints = copied_constraints i } in
+          let Read : Needs → Type 0 = λ needs. AreNeedsRead u (notes_in c.read_demands.new.self) c.args.solvable needs in
+          subst Read answer (subst (λ (d : Demands). Read (known d)) copied c.in_ok-read_demands-in-Known.ensures.read);
+    }
 
-pub returns-in_err-read_demands-in-Known-clause-brings : goal.returns-in_err-read_demands-in-Known-clause-brings
-returns-in_err-read_demands-in-Known-clause-brings g c =
-    let u = g.D.Interner.universe c.args.provider.now in
-    let s = c.args.solvable in
-    let set = c.args.chosen.now.keys in
-    let old = notes_in c.args.self.now in
-    let needed = demands_of (u.needs s) in
-    let Called = IsDemanded u set needed in
-    let Own : Origin g.row.N.Denot g.row.S.Denot → Type 0 = IsOwn u (Solvable s) needed in
-    let answer = rw c.in-Known.is at (c.dependencies.ensures u c.fetch_dependencies.ensures.is_true) in
-    let copied_requirements = c.deref-in-Known-2.ensures.value ∙ c.in_ok-requirements-in-Known.ensures.items ∙ c.deref.ensures.value in
-    let copied_constraints = c.deref-in-Known-3.ensures.value ∙ c.in_ok-constraints-in-Known.ensures.items ∙ c.deref-in-Known.ensures.value in
-    let demands : Demands = record { requirements = c.deref-in-Known-2.result.now; constraints = c.deref-in-Known-3.result.now } in
-    let copied : demands ≡ record { requirements = c.in-Known.known.requirements.items; constraints = c.in-Known.known.constrains.items } =
-    λ i. record { requirements = copied_requirements i; constraints = copied_constraints i } in
-    let same : needed ≡ demands = demands_known _ _ answer ∙ sym copied in
-    let new = notes_in c.read_demands.new.self in
-    let Brought : Demands → Type 0 = λ d. Brings u (IsDemanded u set d) (IsOwn u (Solvable s) d) old new in
-    subst Brought (sym same) c.read_demands.ensures.brings
+pub dependencies-requires-clause-solvables : goal.dependencies-requires-clause-solvables
+dependencies-requires-clause-solvables g c = g.met.D.Interner.solvables_are_values
 
-pub returns-in_ok-read_demands-in-Known-clause-brings : goal.returns-in_ok-read_demands-in-Known-clause-brings
-returns-in_ok-read_demands-in-Known-clause-brings g c =
-    let u = g.D.Interner.universe c.args.provider.now in
-    let s = c.args.solvable in
-    let set = c.args.chosen.now.keys in
-    let old = notes_in c.args.self.now in
-    let needed = demands_of (u.needs s) in
-    let Called = IsDemanded u set needed in
-    let Own : Origin g.row.N.Denot g.row.S.Denot → Type 0 = IsOwn u (Solvable s) needed in
-    let answer = rw c.in-Known.is at (c.dependencies.ensures u c.fetch_dependencies.ensures.is_true) in
-    let copied_requirements = c.deref-in-Known-2.ensures.value ∙ c.in_ok-requirements-in-Known.ensures.items ∙ c.deref.ensures.value in
-    let copied_constraints = c.deref-in-Known-3.ensures.value ∙ c.in_ok-constraints-in-Known.ensures.items ∙ c.deref-in-Known.ensures.value in
-    let demands : Demands = record { requirements = c.deref-in-Known-2.result.now; constraints = c.deref-in-Known-3.result.now } in
-    let copied : demands ≡ record { requirements = c.in-Known.known.requirements.items; constraints = c.in-Known.known.constrains.items } =
-    λ i. record { requirements = copied_requirements i; constraints = copied_constraints i } in
-    let same : needed ≡ demands = demands_known _ _ answer ∙ sym copied in
-    let new = notes_in c.read_demands.new.self in
-    let Brought : Demands → Type 0 = λ d. Brings u (IsDemanded u set d) (IsOwn u (Solvable s) d) old new in
-    subst Brought (sym same) c.read_demands.ensures.brings
+pub dependencies-requires-clause-has : goal.dependencies-requires-clause-has
+dependencies-requires-clause-has g c = c.in_ok-fetch_dependencies.ensures.has
 
-pub returns-in_ok-forbid_unknown-in-Unknown-clause-is_true : goal.returns-in_ok-forbid_unknown-in-Unknown-clause-is_true
-returns-in_ok-forbid_unknown-in-Unknown-clause-is_true g c = c.fetch_dependencies.ensures.is_true
-
-pub returns-in_ok-forbid_unknown-in-Unknown-clause-room : goal.returns-in_ok-forbid_unknown-in-Unknown-clause-room
-returns-in_ok-forbid_unknown-in-Unknown-clause-room g c = c.forbid_unknown.ensures.room
-
-pub returns-in_ok-forbid_unknown-in-Unknown-clause-refusal : goal.returns-in_ok-forbid_unknown-in-Unknown-clause-refusal
-returns-in_ok-forbid_unknown-in-Unknown-clause-refusal g c = tt
-
-pub returns-in_ok-forbid_unknown-in-Unknown-clause-read : goal.returns-in_ok-forbid_unknown-in-Unknown-clause-read
-returns-in_ok-forbid_unknown-in-Unknown-clause-read g c =
-    let u = g.D.Interner.universe c.args.provider.now in
-    let answer = rw c.in-Unknown.is at (c.dependencies.ensures u c.fetch_dependencies.ensures.is_true) in
-    let Read : Needs → Type 0 = λ needs. AreNeedsRead u (notes_in c.forbid_unknown.new.self) c.args.solvable needs in
-    subst Read answer c.in_ok-forbid_unknown-in-Unknown.ensures.forbidden
-
-pub returns-in_ok-read_demands-in-Known-clause-is_true : goal.returns-in_ok-read_demands-in-Known-clause-is_true
-returns-in_ok-read_demands-in-Known-clause-is_true g c = c.read_demands.ensures.is_true
-
-pub returns-in_ok-read_demands-in-Known-clause-room : goal.returns-in_ok-read_demands-in-Known-clause-room
-returns-in_ok-read_demands-in-Known-clause-room g c = c.read_demands.ensures.room
-
-pub returns-in_ok-read_demands-in-Known-clause-refusal : goal.returns-in_ok-read_demands-in-Known-clause-refusal
-returns-in_ok-read_demands-in-Known-clause-refusal g c = tt
-
-pub returns-in_ok-read_demands-in-Known-clause-read : goal.returns-in_ok-read_demands-in-Known-clause-read
-returns-in_ok-read_demands-in-Known-clause-read g c =
-    let u = g.D.Interner.universe c.args.provider.now in
-    let answer = rw c.in-Known.is at (c.dependencies.ensures u c.fetch_dependencies.ensures.is_true) in
-    let copied_requirements = c.deref-in-Known-2.ensures.value ∙ c.in_ok-requirements-in-Known.ensures.items ∙ c.deref.ensures.value in
-    let copied_constraints = c.deref-in-Known-3.ensures.value ∙ c.in_ok-constraints-in-Known.ensures.items ∙ c.deref-in-Known.ensures.value in
-    let demands : Demands = record { requirements = c.deref-in-Known-2.result.now; constraints = c.deref-in-Known-3.result.now } in
-    let copied : demands ≡ record { requirements = c.in-Known.known.requirements.items; constraints = c.in-Known.known.constrains.items } =
-    λ i. record { requirements = copied_requirements i; constraints = copied_constraints i } in
-    let Read : Needs → Type 0 = λ needs. AreNeedsRead u (notes_in c.read_demands.new.self) c.args.solvable needs in
-    subst Read answer (subst (λ (d : Demands). Read (known d)) copied c.in_ok-read_demands-in-Known.ensures.read)
+pub forbid_unknown-requires-clause-unknown : goal.forbid_unknown-requires-clause-unknown
+forbid_unknown-requires-clause-unknown g c =
+    sym (rw c.in-Unknown.is at (c.dependencies.ensures (g.D.Interner.universe c.args.provider.now) c.fetch_dependencies.ensures.is_true))

@@ -9,66 +9,136 @@ use Rattle.resolver_encoding.specs.Called.{IsAsking}
 use Rattle.resolver_encoding.specs.Led.{IsBarred}
 use Rattle.resolver_encoding.proofs.LedLemmas.{AddsOnly-trans, AddsOnly-weaker, IsBarred-weaker}
 use Rattle.resolver_encoding.proofs.LedReading.{asked_followed}
+use Rattle.std.proofs.lemmas.Result.{IfOk-from_err}
+use Rattle.resolver_encoding.proofs.RefusalLemmas.{IfErr-of}
+use Rattle.resolver_encoding.proofs.RefusalLemmas.{IfErr-stop}
+use Rattle.resolver_encoding.proofs.RoomLemmas.{KeepsRoom-same}
+use Rattle.resolver_encoding.proofs.RoomLemmas.{KeepsRoom-trans}
+use Rattle.resolver_encoding.proofs.EncodingLemmas.{IsStep-same}
+use Rattle.resolver_encoding.proofs.LedLemmas.{AddsOnly-equal}
+use Rattle.resolver_encoding.proofs.TurnLemmas.{AddsPlainly-same}
+use Rattle.std.proofs.Common.{refl}
 use Rattle.resolver_encoding.proofs.encoding.Encoding.restore.Goals as goal
 
 pub restore_exclusions-requires-clause-asked : goal.restore_exclusions-requires-clause-asked
-restore_exclusions-requires-clause-asked g c =
-    let Has : List g.row.N.Denot → Type 0 = λ list. Contains list c.solvable_name-name.result in
+restore_exclusions-requires-clause-asked g c = let Has : List g.row.N.Denot → Type 0 = λ list. Contains list c.solvable_name-name.result in
     subst Has (sym c.in_ok-restore_lock.ensures.step.asked) c.if-not-is_among.ensures
 
-pub returns-then-not-is_among-clause-restored : goal.returns-then-not-is_among-clause-restored
-returns-then-not-is_among-clause-restored g c =
-    let u = g.D.Interner.universe c.args.provider.now in
-    let Asked : g.row.N.Denot → Type 0 = λ n. Contains (notes_in c.args.self.now).asked n → ⊥ in
-    IsRestored-unasked u c.args.solvable (notes_in c.args.self.now) (subst Asked c.solvable_name-name.ensures c.if-not-is_among.ensures)
+pub returns-then-not-is_among : goal.returns-then-not-is_among
+returns-then-not-is_among g c =
+    record {
+      restored = let u = g.D.Interner.universe c.args.provider.now in
+          let Asked : g.row.N.Denot → Type 0 = λ n. Contains (notes_in c.args.self.now).asked n → ⊥ in
+          IsRestored-unasked u c.args.solvable (notes_in c.args.self.now) (subst Asked c.solvable_name-name.ensures c.if-not-is_among.ensures);
+      room = KeepsRoom-same _ c.requires.bounded;
+      is_true = c.requires.is_true;
+      step = IsStep-same (g.D.Interner.universe c.args.provider.now) (owing_for c.args.solvable) (λ root. ⊤) (notes_in c.args.self.now);
+      plain = AddsPlainly-same (g.D.Interner.universe c.args.provider.now) (notes_in c.args.self.now);
+      adds = AddsOnly-equal _ _ _ refl refl;
+      refusal = tt;
+    }
 
-pub returns-clause-step : goal.returns-clause-step
-returns-clause-step g c = IsStep-trans (g.D.Interner.universe c.args.provider.now) (owing_for c.args.solvable) (λ root.
-    ⊤) _ _ _ c.in_ok-restore_lock.ensures.step c.in_ok-restore_exclusions.ensures.step
+pub returns-in_err-fetch_candidates : goal.returns-in_err-fetch_candidates
+returns-in_err-fetch_candidates g c =
+    record {
+      room = KeepsRoom-same _ c.requires.bounded;
+      is_true = c.fetch_candidates.ensures.is_true;
+      step = IfOk-from_err c.from_residual.result _ c.from_residual.ensures.0;
+      plain = IfOk-from_err c.from_residual.result _ c.from_residual.ensures.0;
+      restored = IfOk-from_err c.from_residual.result _ c.from_residual.ensures.0;
+      adds = AddsOnly-equal _ _ _ refl refl;
+      refusal = IfErr-stop c.from_residual.result (g.D.DependencyProvider.may_cancel c.args.provider.now) _
+          c.in_err-fetch_candidates.field-0.0 c.from_residual.ensures.1 c.in_err-fetch_candidates.ensures.refusal;
+    }
 
-pub returns-clause-plain : goal.returns-clause-plain
-returns-clause-plain g c = AddsPlainly-trans
-    (g.D.Interner.universe c.args.provider.now) _ _ _ c.in_ok-restore_lock.ensures.plain c.in_ok-restore_exclusions.ensures.plain
+pub returns-in_err-restore_lock : goal.returns-in_err-restore_lock
+returns-in_err-restore_lock g c =
+    record {
+      adds = let u = g.D.Interner.universe c.args.provider.now in
+          let old = notes_in c.args.self.now in
+          let n = c.solvable_name-name.result in
+          let followed : (o : Origin g.row.N.Denot g.row.S.Denot) → IsBarred u (IsAsking n) o → IsBarred u (IsFollowed old) o =
+          IsBarred-weaker u (IsAsking n) (IsFollowed old) (asked_followed u old n c.if-not-is_among.ensures) in
+          AddsOnly-weaker (IsBarred u (IsAsking n)) (IsBarred u (IsFollowed old)) followed old (notes_in c.restore_lock.new.self) c.restore_lock.ensures.adds;
+      room = c.restore_lock.ensures.room;
+      is_true = c.fetch_candidates.ensures.is_true;
+      step = IfOk-from_err c.from_residual-in_err-restore_lock.result _ c.from_residual-in_err-restore_lock.ensures.0;
+      plain = IfOk-from_err c.from_residual-in_err-restore_lock.result _ c.from_residual-in_err-restore_lock.ensures.0;
+      restored = IfOk-from_err c.from_residual-in_err-restore_lock.result _ c.from_residual-in_err-restore_lock.ensures.0;
+      refusal = IfErr-of c.from_residual-in_err-restore_lock.result _ _ c.from_residual-in_err-restore_lock.ensures.1 c.in_err-restore_lock.ensures.refusal;
+    }
 
-pub returns-clause-restored : goal.returns-clause-restored
-returns-clause-restored g c =
-    let u = g.D.Interner.universe c.args.provider.now in
-    let answer = c.candidates-package.ensures u c.fetch_candidates.ensures.is_true in
-    IsRestored-found u c.args.solvable (notes_in c.args.self.now) (notes_in c.restore_lock.new.self)
-    (notes_in c.restore_exclusions.new.self) c.solvable_name-name.result c.solvable_name-name.ensures
-    c.in_ok-restore_exclusions.ensures.step.kinds c.in_ok-restore_lock.ensures.step.exempt c.in_ok-restore_exclusions.ensures.step.exempt _ _ _
-    (c.deref.ensures.value ∙ ap (λ p. p.listed) answer) (ap (λ p. p.locked) answer) (c.deref-2.ensures.value ∙ ap (λ p. p.excluded) answer)
-    c.in_ok-restore_lock.ensures.restored c.in_ok-restore_exclusions.ensures.restored
+pub returns-in_err-restore_exclusions : goal.returns-in_err-restore_exclusions
+returns-in_err-restore_exclusions g c =
+    record {
+      adds = let u = g.D.Interner.universe c.args.provider.now in
+          let old = notes_in c.args.self.now in
+          let n = c.solvable_name-name.result in
+          let followed : (o : Origin g.row.N.Denot g.row.S.Denot) → IsBarred u (IsAsking n) o → IsBarred u (IsFollowed old) o =
+          IsBarred-weaker u (IsAsking n) (IsFollowed old) (asked_followed u old n c.if-not-is_among.ensures) in
+          let mid = notes_in c.restore_lock.new.self in
+          let new = notes_in c.restore_exclusions.new.self in
+          AddsOnly-weaker (IsBarred u (IsAsking n)) (IsBarred u (IsFollowed old)) followed old new
+          (AddsOnly-trans (IsBarred u (IsAsking n)) old mid new c.restore_lock.ensures.adds c.restore_exclusions.ensures.adds);
+      room = KeepsRoom-trans _ _ _ c.restore_lock.ensures.room c.restore_exclusions.ensures.room;
+      is_true = c.fetch_candidates.ensures.is_true;
+      step = IfOk-from_err c.from_residual-in_err-restore_exclusions.result _ c.from_residual-in_err-restore_exclusions.ensures.0;
+      plain = IfOk-from_err c.from_residual-in_err-restore_exclusions.result _ c.from_residual-in_err-restore_exclusions.ensures.0;
+      restored = IfOk-from_err c.from_residual-in_err-restore_exclusions.result _ c.from_residual-in_err-restore_exclusions.ensures.0;
+      refusal = IfErr-of c.from_residual-in_err-restore_exclusions.result _ _ c.from_residual-in_err-restore_exclusions.ensures.1
+          c.in_err-restore_exclusions.ensures.refusal;
+    }
 
-pub returns-in_err-restore_lock-clause-adds : goal.returns-in_err-restore_lock-clause-adds
-returns-in_err-restore_lock-clause-adds g c =
-    let u = g.D.Interner.universe c.args.provider.now in
-    let old = notes_in c.args.self.now in
-    let n = c.solvable_name-name.result in
-    let followed : (o : Origin g.row.N.Denot g.row.S.Denot) → IsBarred u (IsAsking n) o → IsBarred u (IsFollowed old) o =
-    IsBarred-weaker u (IsAsking n) (IsFollowed old) (asked_followed u old n c.if-not-is_among.ensures) in
-    AddsOnly-weaker (IsBarred u (IsAsking n)) (IsBarred u (IsFollowed old)) followed old (notes_in c.restore_lock.new.self) c.restore_lock.ensures.adds
+pub returns : goal.returns
+returns g c =
+    record {
+      step = IsStep-trans (g.D.Interner.universe c.args.provider.now) (owing_for c.args.solvable) (λ root.
+          ⊤) _ _ _ c.in_ok-restore_lock.ensures.step c.in_ok-restore_exclusions.ensures.step;
+      plain = AddsPlainly-trans
+          (g.D.Interner.universe c.args.provider.now) _ _ _ c.in_ok-restore_lock.ensures.plain c.in_ok-restore_exclusions.ensures.plain;
+      restored = let u = g.D.Interner.universe c.args.provider.now in
+          let answer = c.candidates-package.ensures u c.fetch_candidates.ensures.is_true in
+          IsRestored-found u c.args.solvable (notes_in c.args.self.now) (notes_in c.restore_lock.new.self)
+          (notes_in c.restore_exclusions.new.self) c.solvable_name-name.result c.solvable_name-name.ensures
+          c.in_ok-restore_exclusions.ensures.step.kinds c.in_ok-restore_lock.ensures.step.exempt c.in_ok-restore_exclusions.ensures.step.exempt _ _ _
+          (c.deref.ensures.value ∙ ap (λ p. p.listed) answer) (ap (λ p. p.locked) answer) (c.deref-2.ensures.value ∙ ap (λ p. p.excluded) answer)
+          c.in_ok-restore_lock.ensures.restored c.in_ok-restore_exclusions.ensures.restored;
+      adds = let u = g.D.Interner.universe c.args.provider.now in
+          let old = notes_in c.args.self.now in
+          let n = c.solvable_name-name.result in
+          let followed : (o : Origin g.row.N.Denot g.row.S.Denot) → IsBarred u (IsAsking n) o → IsBarred u (IsFollowed old) o =
+          IsBarred-weaker u (IsAsking n) (IsFollowed old) (asked_followed u old n c.if-not-is_among.ensures) in
+          let mid = notes_in c.restore_lock.new.self in
+          let new = notes_in c.restore_exclusions.new.self in
+          AddsOnly-weaker (IsBarred u (IsAsking n)) (IsBarred u (IsFollowed old)) followed old new
+          (AddsOnly-trans (IsBarred u (IsAsking n)) old mid new c.restore_lock.ensures.adds c.restore_exclusions.ensures.adds);
+      room = KeepsRoom-trans _ _ _ c.restore_lock.ensures.room c.restore_exclusions.ensures.room;
+      is_true = c.fetch_candidates.ensures.is_true;
+      refusal = tt;
+    }
 
-pub returns-in_err-restore_exclusions-clause-adds : goal.returns-in_err-restore_exclusions-clause-adds
-returns-in_err-restore_exclusions-clause-adds g c =
-    let u = g.D.Interner.universe c.args.provider.now in
-    let old = notes_in c.args.self.now in
-    let n = c.solvable_name-name.result in
-    let followed : (o : Origin g.row.N.Denot g.row.S.Denot) → IsBarred u (IsAsking n) o → IsBarred u (IsFollowed old) o =
-    IsBarred-weaker u (IsAsking n) (IsFollowed old) (asked_followed u old n c.if-not-is_among.ensures) in
-    let mid = notes_in c.restore_lock.new.self in
-    let new = notes_in c.restore_exclusions.new.self in
-    AddsOnly-weaker (IsBarred u (IsAsking n)) (IsBarred u (IsFollowed old)) followed old new
-    (AddsOnly-trans (IsBarred u (IsAsking n)) old mid new c.restore_lock.ensures.adds c.restore_exclusions.ensures.adds)
+pub candidates-package-requires-clause-names : goal.candidates-package-requires-clause-names
+candidates-package-requires-clause-names g c = g.met.D.Interner.names_are_values
 
-pub returns-clause-adds : goal.returns-clause-adds
-returns-clause-adds g c =
-    let u = g.D.Interner.universe c.args.provider.now in
-    let old = notes_in c.args.self.now in
-    let n = c.solvable_name-name.result in
-    let followed : (o : Origin g.row.N.Denot g.row.S.Denot) → IsBarred u (IsAsking n) o → IsBarred u (IsFollowed old) o =
-    IsBarred-weaker u (IsAsking n) (IsFollowed old) (asked_followed u old n c.if-not-is_among.ensures) in
-    let mid = notes_in c.restore_lock.new.self in
-    let new = notes_in c.restore_exclusions.new.self in
-    AddsOnly-weaker (IsBarred u (IsAsking n)) (IsBarred u (IsFollowed old)) followed old new
-    (AddsOnly-trans (IsBarred u (IsAsking n)) old mid new c.restore_lock.ensures.adds c.restore_exclusions.ensures.adds)
+pub candidates-package-requires-clause-has : goal.candidates-package-requires-clause-has
+candidates-package-requires-clause-has g c = c.in_ok-fetch_candidates.ensures.has
+
+pub restore_lock-requires-clause-named : goal.restore_lock-requires-clause-named
+restore_lock-requires-clause-named g c = sym c.solvable_name-name.ensures
+
+pub restore_lock-requires-clause-asked : goal.restore_lock-requires-clause-asked
+restore_lock-requires-clause-asked g c = c.if-not-is_among.ensures
+
+pub restore_lock-requires-clause-listed : goal.restore_lock-requires-clause-listed
+restore_lock-requires-clause-listed g c =
+    (let answer = c.candidates-package.ensures (g.D.Interner.universe c.args.provider.now) c.fetch_candidates.ensures.is_true in
+    c.deref.ensures.value ∙ ap (λ p. p.listed) answer)
+
+pub restore_lock-requires-clause-locked : goal.restore_lock-requires-clause-locked
+restore_lock-requires-clause-locked g c =
+    (let answer = c.candidates-package.ensures (g.D.Interner.universe c.args.provider.now) c.fetch_candidates.ensures.is_true in ap (λ p. p.locked) answer)
+
+pub restore_exclusions-requires-clause-excluded : goal.restore_exclusions-requires-clause-excluded
+restore_exclusions-requires-clause-excluded g c =
+    (let answer = c.candidates-package.ensures (g.D.Interner.universe c.args.provider.now) c.fetch_candidates.ensures.is_true in
+    c.deref-2.ensures.value ∙ ap (λ p. p.excluded) answer)
