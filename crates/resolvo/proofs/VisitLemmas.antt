@@ -45,11 +45,11 @@ pub below-contains : (table : List (List Literal)) (variables number : ℕ) (lit
 below-contains table variables number literal below c = subst (λ (l : Literal). l.variable < variables) c.2 (below number c.0 literal c.1)
 
 -- the blockers have a slot
-pub blockers-below : (table : List (List Literal)) (trail : Trail) (it : Propagator) (falsified : FalseLiteral) (place : ℕ) →
-    IsVisiting table trail it falsified place → All (λ (watch : Watch). watch.blocker_variable < variable_count trail) (watchers_of it falsified.literal)
-blockers-below table trail it falsified place v k d inside =
-    let watch = get_or (watchers_of it falsified.literal) k d in
-    below-contains table (variable_count trail) watch.number (blocker_of watch) v.below (v.propagator.watched.fit (list_number falsified.literal) k d inside).own
+pub blockers-below : (table : List (List Literal)) (trail : Trail) (it : Propagator) (literal : Literal) → AreBelow (variable_count trail) table →
+    IsPropagator table trail it → All (λ (watch : Watch). watch.blocker_variable < variable_count trail) (watchers_of it literal)
+blockers-below table trail it literal below propagator k d inside =
+    let watch = get_or (watchers_of it literal) k d in
+    below-contains table (variable_count trail) watch.number (blocker_of watch) below (propagator.watched.fit (list_number literal) k d inside).own
 
 -- a clause that is true
 

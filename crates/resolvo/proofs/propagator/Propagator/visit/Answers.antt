@@ -1,6 +1,6 @@
 use Rattle.std.proofs.lemmas.Grind.{common_steps}
 use Rattle.std.proofs.Common.{arith}
-use Rattle.resolvo.proofs.VisitLemmas.{visited}
+use Rattle.resolvo.proofs.VisitLemmas.{blockers-below, visited}
 use Rattle.resolver_clause_store.proofs.WatchListLemmas.{watching-stands}
 use Rattle.resolvo.proofs.propagator.Propagator.visit.Goals as goal
 
@@ -24,3 +24,11 @@ returns-clause-justified c = grind (arith, common_steps)
 
 pub returns-clause-open : goal.returns-clause-open
 returns-clause-open c = grind (arith, common_steps)
+
+pub next_place-place-requires-clause-below : goal.next_place-place-requires-clause-below
+next_place-place-requires-clause-below c = blockers-below c.args.table.now c.args.trail.now c.args.self.now _ c.requires.below c.requires.propagator
+
+pub next_place-place-requires-in-Next-clause-below : goal.next_place-place-requires-in-Next-clause-below
+next_place-place-requires-in-Next-clause-below c =
+    let goes = rw c.in-Next.is at c.in_ok-next.ensures.outcome in
+    blockers-below c.args.table.now _ _ _ goes.visiting.below goes.visiting.propagator
