@@ -269,8 +269,18 @@ impl<N: Copy + Drop, S: Copy + Drop> ClauseKinds<N, S> {
         self.stored.len()
     }
 
-    /// Appends the kind of a new clause. An error changes nothing.
+    /// Appends the kind of a new clause, as a run of its own. An error changes nothing.
     pub fn push(&mut self, kind: ClauseKind<N, S>) -> Result<(), AllocError>
+        ensures kinds { OnOk result (self.new ≡ self.old ++ kind ∷ []) }
+        ensures unchanged { OnErr result (self.new ≡ self.old) }
+    {
+        let stored = stored_of(&mut self.conditional, kind)?;
+        self.stored.begin(stored)?;
+        Ok(())
+    }
+
+    /// Appends the kind of a new clause, in the run of the last one if that goes on with it. An error changes nothing.
+    pub(crate) fn push_in_run(&mut self, kind: ClauseKind<N, S>) -> Result<(), AllocError>
     where
         N: Eq,
         S: Eq,
@@ -286,8 +296,7 @@ impl<N: Copy + Drop, S: Copy + Drop> ClauseKinds<N, S> {
                 Ok(())
             }
             None => {
-                let stored = stored_of(&mut self.conditional, kind)?;
-                self.stored.begin(stored)?;
+                self.push(kind)?;
                 Ok(())
             }
         }

@@ -253,7 +253,7 @@ impl<N: Copy + Eq + Hash + Drop, S: Copy + Eq + Hash + Drop> ClauseTable<N, S> {
         ensures memory { IfErr result (λ e. e ≡ Exhausted.Memory) }
     {
         let count = self.kinds.len();
-        self.kinds.push(kind)?;
+        self.kinds.push_in_run(kind)?;
         match self.literals.push(literals) {
             Ok(()) => Ok(()),
             Err(_) => {
