@@ -21,6 +21,7 @@ pub mod SolveLemmas
 pub mod RoundLemmas
 pub mod GoingLemmas
 pub mod RefusingLemmas
+pub mod StuckLemmas
 pub mod SoftLemmas
 pub mod SoftTurnLemmas
 pub mod LeadingLemmas

@@ -5,6 +5,8 @@ use Rattle.std.proofs.lemmas.Bool.{false≢true}
 use Rattle.resolvo.specs.RoundStates.{IsFound}
 use Rattle.resolvo.proofs.RefusingLemmas.{unanswered_core, unanswered_refused}
 use Rattle.resolvo.proofs.rounds.Rounds.is_answered.Goals.{in-Answer, in-Contradiction, in-Refused}
+use Rattle.std.proofs.lemmas.Result.{IfOk-from_err}
+use Rattle.resolver_encoding.proofs.RefusalLemmas.{IfErr-of}
 use Rattle.resolvo.proofs.rounds.Rounds.is_answered.Goals as goal
 
 pub returns-clause-unanswered : goal.returns-clause-unanswered
@@ -24,8 +26,19 @@ returns-clause-is_true g c = grind (arith, common_steps)
 pub returns-clause-limits : goal.returns-clause-limits
 returns-clause-limits g c = grind (arith, common_steps)
 
-pub returns-in_err-all_rounds-clause-led : goal.returns-in_err-all_rounds-clause-led
-returns-in_err-all_rounds-clause-led g c = c.all_rounds.ensures.led
+pub returns-in_err-all_rounds : goal.returns-in_err-all_rounds
+returns-in_err-all_rounds g c =
+    record {
+      is_true = c.all_rounds.ensures.is_true;
+      rounds = IfOk-from_err c.from_residual.result _ c.from_residual.ensures.0;
+      keeps = IfOk-from_err c.from_residual.result _ c.from_residual.ensures.0;
+      counted = IfOk-from_err c.from_residual.result _ c.from_residual.ensures.0;
+      answer = IfOk-from_err c.from_residual.result _ c.from_residual.ensures.0;
+      unanswered = IfOk-from_err c.from_residual.result _ c.from_residual.ensures.0;
+      led = c.all_rounds.ensures.led;
+      limits = c.all_rounds.ensures.limits;
+      refusal = IfErr-of c.from_residual.result _ _ c.from_residual.ensures.1 c.in_err-all_rounds.ensures.refusal;
+    }
 
 pub returns-clause-led : goal.returns-clause-led
 returns-clause-led g c = c.all_rounds.ensures.led

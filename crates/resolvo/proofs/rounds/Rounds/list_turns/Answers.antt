@@ -4,6 +4,8 @@ use Rattle.resolver_clause_store.specs.declared.SoftRequirement.{SoftRequirement
 use Rattle.resolvo.specs.RoundStates.{IsBetween, IsLedBy}
 use Rattle.resolvo.proofs.RoundLemmas.{room_same, room_trans}
 use Rattle.resolvo.proofs.LeadingLemmas.{Extends-take}
+use Rattle.std.proofs.lemmas.Result.{IfOk-from_err}
+use Rattle.resolver_encoding.proofs.RefusalLemmas.{IfErr-of}
 use Rattle.resolvo.proofs.rounds.Rounds.list_turns.Goals as goal
 
 pub loop-requirement-init : goal.loop-requirement-init
@@ -47,44 +49,44 @@ loop-requirement-preserved g c =
           subst Led is (c.soft_turn.ensures.led root (done ++ take i all) (before.between root done b) (before.led root done b led));
     }
 
-pub returns-clause-between : goal.returns-clause-between
-returns-clause-between g c = λ root done b.
-    let all = c.args.list.now in
-    let Between : List (SoftRequirement g.row.S.Denot) → Type 0 =
-    λ list. IsBetween (g.D.Interner.universe c.args.provider.now) root (done ++ list) c.loop-requirement.self in
-    subst Between (take_all c.loop-requirement.requirement-index all (omega arith)) (c.loop-requirement.invariant.between root done b)
+pub returns : goal.returns
+returns g c =
+    record {
+      is_true = c.loop-requirement.invariant.is_true;
+      rounds = c.loop-requirement.invariant.rounds;
+      counted = c.loop-requirement.invariant.counted;
+      between = λ root done b.
+          let all = c.args.list.now in
+          let Between : List (SoftRequirement g.row.S.Denot) → Type 0 =
+          λ list. IsBetween (g.D.Interner.universe c.args.provider.now) root (done ++ list) c.loop-requirement.self in
+          subst Between (take_all c.loop-requirement.requirement-index all (omega arith)) (c.loop-requirement.invariant.between root done b);
+      led = λ root done b led.
+          let i = c.loop-requirement.requirement-index in
+          let all = c.args.list.now in
+          (take i all, Extends-take i all, c.loop-requirement.invariant.led root done b led);
+      limits = c.loop-requirement.invariant.room;
+      refusal = tt;
+    }
 
-pub returns-in_err-soft_turn-clause-led : goal.returns-in_err-soft_turn-clause-led
-returns-in_err-soft_turn-clause-led g c = λ root done b led.
-    let i = c.loop-requirement.requirement-index in
-    let all = c.args.list.now in
-    let r = c.requirement-item.result in
-    let before = c.loop-requirement.invariant in
-    let Led : List (SoftRequirement g.row.S.Denot) → Type 0 = λ list. IsLedBy (g.D.Interner.universe c.args.provider.now) root list c.soft_turn.new.self in
-    let more : take (i + 1) all ≡ take i all ++ r ∷ [] = take_more all i r (omega arith) ∙ ap (λ x. take i all ++ x ∷ []) (sym c.requirement-item.is) in
-    let is : (done ++ take i all) ++ r ∷ [] ≡ done ++ take (i + 1) all = append_assoc done (take i all) (r ∷ []) ∙ ap (λ x. done ++ x) (sym more) in (
-      take (i + 1) all,
-      Extends-take (i + 1) all,
-      subst Led is (c.soft_turn.ensures.led root (done ++ take i all) (before.between root done b) (before.led root done b led)),
-    )
-
-pub returns-clause-led : goal.returns-clause-led
-returns-clause-led g c = λ root done b led.
-    let i = c.loop-requirement.requirement-index in
-    let all = c.args.list.now in
-    (take i all, Extends-take i all, c.loop-requirement.invariant.led root done b led)
-
-pub returns-clause-counted : goal.returns-clause-counted
-returns-clause-counted g c = c.loop-requirement.invariant.counted
-
-pub returns-clause-rounds : goal.returns-clause-rounds
-returns-clause-rounds g c = c.loop-requirement.invariant.rounds
-
-pub returns-clause-is_true : goal.returns-clause-is_true
-returns-clause-is_true g c = c.loop-requirement.invariant.is_true
-
-pub returns-clause-limits : goal.returns-clause-limits
-returns-clause-limits g c = c.loop-requirement.invariant.room
-
-pub returns-clause-refusal : goal.returns-clause-refusal
-returns-clause-refusal g c = tt
+pub returns-in_err-soft_turn : goal.returns-in_err-soft_turn
+returns-in_err-soft_turn g c =
+    record {
+      is_true = c.soft_turn.ensures.is_true;
+      rounds = IfOk-from_err c.from_residual.result _ c.from_residual.ensures.0;
+      counted = IfOk-from_err c.from_residual.result _ c.from_residual.ensures.0;
+      between = IfOk-from_err c.from_residual.result _ c.from_residual.ensures.0;
+      led = λ root done b led.
+          let i = c.loop-requirement.requirement-index in
+          let all = c.args.list.now in
+          let r = c.requirement-item.result in
+          let before = c.loop-requirement.invariant in
+          let Led : List (SoftRequirement g.row.S.Denot) → Type 0 = λ list. IsLedBy (g.D.Interner.universe c.args.provider.now) root list c.soft_turn.new.self in
+          let more : take (i + 1) all ≡ take i all ++ r ∷ [] = take_more all i r (omega arith) ∙ ap (λ x. take i all ++ x ∷ []) (sym c.requirement-item.is) in
+          let is : (done ++ take i all) ++ r ∷ [] ≡ done ++ take (i + 1) all = append_assoc done (take i all) (r ∷ []) ∙ ap (λ x. done ++ x) (sym more) in (
+            take (i + 1) all,
+            Extends-take (i + 1) all,
+            subst Led is (c.soft_turn.ensures.led root (done ++ take i all) (before.between root done b) (before.led root done b led)),
+          );
+      limits = room_trans c.args.self.now c.loop-requirement.self c.soft_turn.new.self c.loop-requirement.invariant.room c.soft_turn.ensures.limits;
+      refusal = IfErr-of c.from_residual.result _ _ c.from_residual.ensures.1 c.in_err-soft_turn.ensures.refusal;
+    }

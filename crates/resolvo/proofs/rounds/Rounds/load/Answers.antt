@@ -4,6 +4,9 @@ use Rattle.resolvo.specs.ClauseSearches.{IsLoaded, trail_of}
 use Rattle.resolvo.specs.RoundStates.{chosen_of, notes_of}
 use Rattle.resolvo.proofs.RoundLemmas.{given_below, given_inside, loaded_all, rounds_owned, searched, still_owned}
 use Rattle.resolvo.proofs.GoingLemmas.{all_clauses, still_loaded}
+use Rattle.std.proofs.lemmas.Result.{IfOk-from_err}
+use Rattle.resolver_encoding.proofs.RefusalLemmas.{IfErr-of}
+use Rattle.std.proofs.Common.{refl}
 use Rattle.resolvo.proofs.rounds.Rounds.load.Goals as goal
 
 pub load-requires-clause-below : goal.load-requires-clause-below
@@ -17,46 +20,70 @@ load-requires-clause-inside g c =
     given_inside (g.D.Interner.universe c.args.provider.now) (chosen_of c.args.self.now)
     (notes_of c.args.self.now) c.literals.result.now c.requirements.result.now c.requires.rounds.reading c.literals.ensures c.requirements.ensures
 
-pub returns-clause-rounds : goal.returns-clause-rounds
-returns-clause-rounds g c =
-    let notes = notes_of c.args.self.now in
-    let loaded : IsLoaded notes.table notes.requirements c.load.new.self =
-    loaded_all notes.table c.literals.result.now notes.requirements c.requirements.result.now c.args.self.now.search c.load.new.self
-    c.requires.rounds.loaded c.literals.ensures c.requirements.ensures c.in_ok-load.ensures.loaded in
-    let size : variable_count (trail_of c.load.new.self) ≡ length notes.origins = c.in_ok-load.ensures.variables ∙ c.len.ensures ∙
-    ap length c.variables-known.ensures in
-    let it = record c.args.self.now { owners = c.follow.new.self } in
-    searched (g.D.Interner.universe c.args.provider.now) it c.load.new.self
-    (rounds_owned (g.D.Interner.universe c.args.provider.now) c.args.self.now c.follow.new.self c.requires.rounds) c.in_ok-load.ensures.consistent loaded
-    size c.in_ok-load.ensures.kept
-
-pub returns-clause-loaded : goal.returns-clause-loaded
-returns-clause-loaded g c =
-    let notes = notes_of c.args.self.now in
+pub returns : goal.returns
+returns g c =
     record {
-      loaded = loaded_all notes.table c.literals.result.now notes.requirements c.requirements.result.now c.args.self.now.search c.load.new.self
-          c.requires.rounds.loaded c.literals.ensures c.requirements.ensures c.in_ok-load.ensures.loaded;
-      variables = c.in_ok-load.ensures.variables ∙ c.len.ensures ∙ ap length c.variables-known.ensures;
+      rounds = let notes = notes_of c.args.self.now in
+          let loaded : IsLoaded notes.table notes.requirements c.load.new.self =
+          loaded_all notes.table c.literals.result.now notes.requirements c.requirements.result.now c.args.self.now.search c.load.new.self
+          c.requires.rounds.loaded c.literals.ensures c.requirements.ensures c.in_ok-load.ensures.loaded in
+          let size : variable_count (trail_of c.load.new.self) ≡ length notes.origins = c.in_ok-load.ensures.variables ∙ c.len.ensures ∙
+          ap length c.variables-known.ensures in
+          let it = record c.args.self.now { owners = c.follow.new.self } in
+          searched (g.D.Interner.universe c.args.provider.now) it c.load.new.self
+          (rounds_owned (g.D.Interner.universe c.args.provider.now) c.args.self.now c.follow.new.self c.requires.rounds) c.in_ok-load.ensures.consistent loaded
+          size c.in_ok-load.ensures.kept;
+      loaded = let notes = notes_of c.args.self.now in
+          record {
+            loaded = loaded_all notes.table c.literals.result.now notes.requirements c.requirements.result.now c.args.self.now.search c.load.new.self
+                c.requires.rounds.loaded c.literals.ensures c.requirements.ensures c.in_ok-load.ensures.loaded;
+            variables = c.in_ok-load.ensures.variables ∙ c.len.ensures ∙ ap length c.variables-known.ensures;
+          };
+      same = record { encoding = refl; chosen = refl };
+      turn = c.in_ok-load.ensures.turn;
+      still = λ still.
+          let it = record c.args.self.now { owners = c.follow.new.self } in
+          still_loaded (g.D.Interner.universe c.args.provider.now) it c.load.new.self
+          (rounds_owned (g.D.Interner.universe c.args.provider.now) c.args.self.now c.follow.new.self c.requires.rounds) c.in_ok-load.ensures.consistent
+          c.in_ok-load.ensures.set c.in_ok-load.ensures.bookmarked c.in_ok-load.ensures.turn (still_owned c.args.self.now c.follow.new.self still);
+      counted = let notes = notes_of c.args.self.now in
+          let loaded : IsLoaded notes.table notes.requirements c.load.new.self =
+          loaded_all notes.table c.literals.result.now notes.requirements c.requirements.result.now c.args.self.now.search c.load.new.self
+          c.requires.rounds.loaded c.literals.ensures c.requirements.ensures c.in_ok-load.ensures.loaded in
+          let size : variable_count (trail_of c.load.new.self) ≡ length notes.origins = c.in_ok-load.ensures.variables ∙ c.len.ensures ∙
+          ap length c.variables-known.ensures in
+          let it = record c.args.self.now { owners = c.follow.new.self } in
+          all_clauses (g.D.Interner.universe c.args.provider.now) (record it { search = c.load.new.self })
+          (searched (g.D.Interner.universe c.args.provider.now) it c.load.new.self
+          (rounds_owned (g.D.Interner.universe c.args.provider.now) c.args.self.now c.follow.new.self c.requires.rounds) c.in_ok-load.ensures.consistent loaded
+          size c.in_ok-load.ensures.kept)
+          (record { loaded = loaded; variables = size });
+      limits = record { notes = record { variables = refl; clauses = refl }; clauses = refl; learnt = refl };
+      memory = tt;
     }
 
-pub returns-clause-still : goal.returns-clause-still
-returns-clause-still g c = λ still.
-    let it = record c.args.self.now { owners = c.follow.new.self } in
-    still_loaded (g.D.Interner.universe c.args.provider.now) it c.load.new.self
-    (rounds_owned (g.D.Interner.universe c.args.provider.now) c.args.self.now c.follow.new.self c.requires.rounds) c.in_ok-load.ensures.consistent
-    c.in_ok-load.ensures.set c.in_ok-load.ensures.bookmarked c.in_ok-load.ensures.turn (still_owned c.args.self.now c.follow.new.self still)
+pub returns-in_err-follow : goal.returns-in_err-follow
+returns-in_err-follow g c =
+    record {
+      rounds = IfOk-from_err c.from_residual.result _ c.from_residual.ensures.0;
+      loaded = IfOk-from_err c.from_residual.result _ c.from_residual.ensures.0;
+      same = record { encoding = refl; chosen = refl };
+      turn = IfOk-from_err c.from_residual.result _ c.from_residual.ensures.0;
+      still = IfOk-from_err c.from_residual.result _ c.from_residual.ensures.0;
+      counted = IfOk-from_err c.from_residual.result _ c.from_residual.ensures.0;
+      limits = record { notes = record { variables = refl; clauses = refl }; clauses = refl; learnt = refl };
+      memory = IfErr-of c.from_residual.result _ _ c.from_residual.ensures.1 c.in_err-follow.ensures.memory;
+    }
 
-pub returns-clause-counted : goal.returns-clause-counted
-returns-clause-counted g c =
-    let notes = notes_of c.args.self.now in
-    let loaded : IsLoaded notes.table notes.requirements c.load.new.self =
-    loaded_all notes.table c.literals.result.now notes.requirements c.requirements.result.now c.args.self.now.search c.load.new.self
-    c.requires.rounds.loaded c.literals.ensures c.requirements.ensures c.in_ok-load.ensures.loaded in
-    let size : variable_count (trail_of c.load.new.self) ≡ length notes.origins = c.in_ok-load.ensures.variables ∙ c.len.ensures ∙
-    ap length c.variables-known.ensures in
-    let it = record c.args.self.now { owners = c.follow.new.self } in
-    all_clauses (g.D.Interner.universe c.args.provider.now) (record it { search = c.load.new.self })
-    (searched (g.D.Interner.universe c.args.provider.now) it c.load.new.self
-    (rounds_owned (g.D.Interner.universe c.args.provider.now) c.args.self.now c.follow.new.self c.requires.rounds) c.in_ok-load.ensures.consistent loaded
-    size c.in_ok-load.ensures.kept)
-    (record { loaded = loaded; variables = size })
+pub returns-in_err-load : goal.returns-in_err-load
+returns-in_err-load g c =
+    record {
+      rounds = IfOk-from_err c.from_residual-in_err-load.result _ c.from_residual-in_err-load.ensures.0;
+      loaded = IfOk-from_err c.from_residual-in_err-load.result _ c.from_residual-in_err-load.ensures.0;
+      same = record { encoding = refl; chosen = refl };
+      turn = IfOk-from_err c.from_residual-in_err-load.result _ c.from_residual-in_err-load.ensures.0;
+      still = IfOk-from_err c.from_residual-in_err-load.result _ c.from_residual-in_err-load.ensures.0;
+      counted = IfOk-from_err c.from_residual-in_err-load.result _ c.from_residual-in_err-load.ensures.0;
+      limits = record { notes = record { variables = refl; clauses = refl }; clauses = refl; learnt = refl };
+      memory = IfErr-of c.from_residual-in_err-load.result _ _ c.from_residual-in_err-load.ensures.1 c.in_err-load.ensures.memory;
+    }

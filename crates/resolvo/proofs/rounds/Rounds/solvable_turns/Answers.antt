@@ -7,22 +7,41 @@ use Rattle.resolvo.specs.RoundStates.{IsBetween, IsLedBy}
 use Rattle.resolvo.proofs.RoundLemmas.{room_trans}
 use Rattle.std.proofs.lemmas.Grind.{common_steps}
 use Rattle.resolvo.proofs.LeadingLemmas.{gives_all, gives_more, gives_these}
+use Rattle.std.proofs.lemmas.Result.{IfOk-from_err}
+use Rattle.resolver_encoding.proofs.RefusalLemmas.{IfErr-of}
 use Rattle.resolvo.proofs.rounds.Rounds.solvable_turns.Goals as goal
 
-pub returns-clause-counted : goal.returns-clause-counted
-returns-clause-counted g c = grind (arith, common_steps)
-
-pub returns-clause-is_true : goal.returns-clause-is_true
-returns-clause-is_true g c = grind (arith, common_steps)
-
-pub returns-clause-limits : goal.returns-clause-limits
-returns-clause-limits g c = grind (arith, common_steps)
-
-pub returns-clause-refusal : goal.returns-clause-refusal
-returns-clause-refusal g c = grind (arith, common_steps)
-
-pub returns-clause-rounds : goal.returns-clause-rounds
-returns-clause-rounds g c = grind (arith, common_steps)
+pub returns : goal.returns
+returns g c =
+    record {
+      is_true = c.loop-solvable.invariant.is_true;
+      rounds = c.loop-solvable.invariant.rounds;
+      still = c.loop-solvable.invariant.still;
+      counted = c.loop-solvable.invariant.counted;
+      between = λ root b. (
+        c.loop-solvable.yielded,
+        gives_all g.I.Iterator.next_gives c.args.soft c.into_iter-solvable-iterator.result _ c.into_iter-solvable-iterator.ensures.into_iter_gives
+            c.loop-solvable.yielded c.loop-solvable.yielded_by c.next.result _ c.in-None.is c.next.ensures.steps,
+        c.loop-solvable.invariant.between root b,
+      );
+      over = λ root b led.
+          let it = c.loop-solvable.invariant in (
+            c.loop-solvable.yielded,
+            gives_all g.I.Iterator.next_gives c.args.soft c.into_iter-solvable-iterator.result _ c.into_iter-solvable-iterator.ensures.into_iter_gives
+                c.loop-solvable.yielded c.loop-solvable.yielded_by c.next.result _ c.in-None.is c.next.ensures.steps,
+            it.between root b,
+            it.led root b led,
+          );
+      led = λ root b led.
+          let xs = c.loop-solvable.yielded in (
+            xs,
+            gives_these g.I.Iterator.next_gives c.args.soft c.into_iter-solvable-iterator.result _ c.into_iter-solvable-iterator.ensures.into_iter_gives
+                xs c.loop-solvable.yielded_by,
+            c.loop-solvable.invariant.led root b led,
+          );
+      limits = c.loop-solvable.invariant.room;
+      refusal = tt;
+    }
 
 pub loop-solvable-preserved : goal.loop-solvable-preserved
 loop-solvable-preserved g c =
@@ -46,44 +65,25 @@ loop-solvable-preserved g c =
           (c.soft_turn.ensures.led root (map Solvable c.loop-solvable.yielded) (before.between root b) (before.led root b led));
     }
 
-pub returns-clause-between : goal.returns-clause-between
-returns-clause-between g c = λ root b. (
-  c.loop-solvable.yielded,
-  gives_all g.I.Iterator.next_gives c.args.soft c.into_iter-solvable-iterator.result _ c.into_iter-solvable-iterator.ensures.into_iter_gives
-      c.loop-solvable.yielded c.loop-solvable.yielded_by c.next.result _ c.in-None.is c.next.ensures.steps,
-  c.loop-solvable.invariant.between root b,
-)
-
-pub returns-clause-over : goal.returns-clause-over
-returns-clause-over g c = λ root b led.
-    let it = c.loop-solvable.invariant in (
-      c.loop-solvable.yielded,
-      gives_all g.I.Iterator.next_gives c.args.soft c.into_iter-solvable-iterator.result _ c.into_iter-solvable-iterator.ensures.into_iter_gives
-          c.loop-solvable.yielded c.loop-solvable.yielded_by c.next.result _ c.in-None.is c.next.ensures.steps,
-      it.between root b,
-      it.led root b led,
-    )
-
-pub returns-in_err-soft_turn-clause-led : goal.returns-in_err-soft_turn-clause-led
-returns-in_err-soft_turn-clause-led g c = λ root b led.
-    let before = c.loop-solvable.invariant in
-    let s = c.in-Some.solvable in
-    let xs = c.loop-solvable.yielded in
-    let Led : List (SoftRequirement g.row.S.Denot) → Type 0 = λ list. IsLedBy (g.D.Interner.universe c.args.provider.now) root list c.soft_turn.new.self in (
-      xs ++ s ∷ [],
-      gives_more g.I.Iterator.next_gives c.args.soft c.into_iter-solvable-iterator.result _ c.into_iter-solvable-iterator.ensures.into_iter_gives
-          xs c.loop-solvable.yielded_by s c.next.result _ c.in-Some.is c.next.ensures.steps,
-      subst Led (sym (map-append Solvable xs (s ∷ []))) (c.soft_turn.ensures.led root (map Solvable xs) (before.between root b) (before.led root b led)),
-    )
-
-pub returns-clause-led : goal.returns-clause-led
-returns-clause-led g c = λ root b led.
-    let xs = c.loop-solvable.yielded in (
-      xs,
-      gives_these g.I.Iterator.next_gives c.args.soft c.into_iter-solvable-iterator.result _ c.into_iter-solvable-iterator.ensures.into_iter_gives
-          xs c.loop-solvable.yielded_by,
-      c.loop-solvable.invariant.led root b led,
-    )
-
-pub returns-clause-still : goal.returns-clause-still
-returns-clause-still g c = c.loop-solvable.invariant.still
+pub returns-in_err-soft_turn : goal.returns-in_err-soft_turn
+returns-in_err-soft_turn g c =
+    record {
+      is_true = c.soft_turn.ensures.is_true;
+      rounds = IfOk-from_err c.from_residual.result _ c.from_residual.ensures.0;
+      still = IfOk-from_err c.from_residual.result _ c.from_residual.ensures.0;
+      counted = IfOk-from_err c.from_residual.result _ c.from_residual.ensures.0;
+      between = IfOk-from_err c.from_residual.result _ c.from_residual.ensures.0;
+      over = IfOk-from_err c.from_residual.result _ c.from_residual.ensures.0;
+      led = λ root b led.
+          let before = c.loop-solvable.invariant in
+          let s = c.in-Some.solvable in
+          let xs = c.loop-solvable.yielded in
+          let Led : List (SoftRequirement g.row.S.Denot) → Type 0 = λ list. IsLedBy (g.D.Interner.universe c.args.provider.now) root list c.soft_turn.new.self in (
+            xs ++ s ∷ [],
+            gives_more g.I.Iterator.next_gives c.args.soft c.into_iter-solvable-iterator.result _ c.into_iter-solvable-iterator.ensures.into_iter_gives
+                xs c.loop-solvable.yielded_by s c.next.result _ c.in-Some.is c.next.ensures.steps,
+            subst Led (sym (map-append Solvable xs (s ∷ []))) (c.soft_turn.ensures.led root (map Solvable xs) (before.between root b) (before.led root b led)),
+          );
+      limits = room_trans c.args.self.now c.loop-solvable.self c.soft_turn.new.self c.loop-solvable.invariant.room c.soft_turn.ensures.limits;
+      refusal = IfErr-of c.from_residual.result _ _ c.from_residual.ensures.1 c.in_err-soft_turn.ensures.refusal;
+    }

@@ -6,6 +6,8 @@ use Rattle.resolvo.specs.RoundStates.{HasTurned, HaveTurned, notes_of}
 use Rattle.resolvo.proofs.RoundLemmas.{room_same, room_trans}
 use Rattle.std.proofs.lemmas.List.Elements.{Contains-push_cases}
 use Rattle.resolvo.proofs.SoftTurnLemmas.{none_tried, tried_last, tried_more}
+use Rattle.std.proofs.lemmas.Result.{IfOk-from_err}
+use Rattle.resolver_encoding.proofs.RefusalLemmas.{IfErr-of}
 use Rattle.resolvo.proofs.rounds.Rounds.take_first.Goals as goal
 use Rattle.resolver_encoding.proofs.LedLemmas.{one_within}
 
@@ -21,19 +23,35 @@ loop-candidate-init g c = record {
   led = λ root taken refused seeds packages within b led. led;
 }
 
-pub returns-then-branch-clause-turned : goal.returns-then-branch-clause-turned
-returns-then-branch-clause-turned g c = λ root taken refused seeds packages within b.
-    let u = g.D.Interner.universe c.args.provider.now in
-    let s = c.candidate-item.result in
-    let mid = c.loop-candidate.self in
-    let new = c.turn.new.self in
-    let h = c.loop-candidate.invariant.turned root taken refused seeds packages within b in
-    let listed = Contains-item c.args.candidates.now c.loop-candidate.candidate-index s (omega arith) c.candidate-item.is in
-    let asked = All-contains (λ t. Contains (notes_of c.args.self.now).asked (u.name t)) c.args.candidates.now s c.requires.asked listed in
-    let Turned : Bool → Type 0 = λ on. HasTurned u root h.taken_now h.refused_now seeds packages s mid new on in
-    tried_last u root taken seeds packages c.args.self.now
-    (take c.loop-candidate.candidate-index c.args.candidates.now) mid new s h asked c.args.candidates.now listed c.requires.none
-    (subst Turned c.if-branch.true (c.in_ok-turn.ensures.turned root h.taken_now h.refused_now seeds packages (within s listed) h.standing))
+pub returns-then-branch : goal.returns-then-branch
+returns-then-branch g c =
+    record {
+      is_true = c.turn.ensures.is_true;
+      rounds = c.in_ok-turn.ensures.rounds;
+      still = c.in_ok-turn.ensures.still;
+      counted = c.in_ok-turn.ensures.counted;
+      turned = λ root taken refused seeds packages within b.
+          let u = g.D.Interner.universe c.args.provider.now in
+          let s = c.candidate-item.result in
+          let mid = c.loop-candidate.self in
+          let new = c.turn.new.self in
+          let h = c.loop-candidate.invariant.turned root taken refused seeds packages within b in
+          let listed = Contains-item c.args.candidates.now c.loop-candidate.candidate-index s (omega arith) c.candidate-item.is in
+          let asked = All-contains (λ t. Contains (notes_of c.args.self.now).asked (u.name t)) c.args.candidates.now s c.requires.asked listed in
+          let Turned : Bool → Type 0 = λ on. HasTurned u root h.taken_now h.refused_now seeds packages s mid new on in
+          tried_last u root taken seeds packages c.args.self.now
+          (take c.loop-candidate.candidate-index c.args.candidates.now) mid new s h asked c.args.candidates.now listed c.requires.none
+          (subst Turned c.if-branch.true (c.in_ok-turn.ensures.turned root h.taken_now h.refused_now seeds packages (within s listed) h.standing));
+      led = λ root taken refused seeds packages within b led.
+          let s = c.candidate-item.result in
+          let before = c.loop-candidate.invariant in
+          let h = before.turned root taken refused seeds packages within b in
+          let listed = Contains-item c.args.candidates.now c.loop-candidate.candidate-index s (omega arith) c.candidate-item.is in
+          c.turn.ensures.led root h.taken_now h.refused_now seeds packages (one_within s seeds (within s listed)) h.standing
+          (before.led root taken refused seeds packages within b led);
+      limits = room_trans c.args.self.now c.loop-candidate.self c.turn.new.self c.loop-candidate.invariant.room c.turn.ensures.limits;
+      refusal = tt;
+    }
 
 pub loop-candidate-preserved : goal.loop-candidate-preserved
 loop-candidate-preserved g c =
@@ -67,66 +85,38 @@ loop-candidate-preserved g c =
           (before.led root taken refused seeds packages within b led);
     }
 
-pub returns-clause-turned : goal.returns-clause-turned
-returns-clause-turned g c = λ root taken refused seeds packages within b.
-    let u = g.D.Interner.universe c.args.provider.now in
-    let all = c.args.candidates.now in
-    let Turned : List g.row.S.Denot → Type 0 = λ list. HaveTurned u root taken seeds packages list c.args.self.now c.loop-candidate.self false in
-    subst Turned (take_all c.loop-candidate.candidate-index all (omega arith)) (c.loop-candidate.invariant.turned root taken refused seeds packages within b)
+pub returns : goal.returns
+returns g c =
+    record {
+      is_true = c.loop-candidate.invariant.is_true;
+      rounds = c.loop-candidate.invariant.rounds;
+      still = c.loop-candidate.invariant.still;
+      counted = c.loop-candidate.invariant.counted;
+      turned = λ root taken refused seeds packages within b.
+          let u = g.D.Interner.universe c.args.provider.now in
+          let all = c.args.candidates.now in
+          let Turned : List g.row.S.Denot → Type 0 = λ list. HaveTurned u root taken seeds packages list c.args.self.now c.loop-candidate.self false in
+          subst Turned (take_all c.loop-candidate.candidate-index all (omega arith)) (c.loop-candidate.invariant.turned root taken refused seeds packages within b);
+      led = c.loop-candidate.invariant.led;
+      limits = c.loop-candidate.invariant.room;
+      refusal = tt;
+    }
 
-pub returns-in_err-turn-clause-led : goal.returns-in_err-turn-clause-led
-returns-in_err-turn-clause-led g c = λ root taken refused seeds packages within b led.
-    let s = c.candidate-item.result in
-    let before = c.loop-candidate.invariant in
-    let h = before.turned root taken refused seeds packages within b in
-    let listed = Contains-item c.args.candidates.now c.loop-candidate.candidate-index s (omega arith) c.candidate-item.is in
-    c.turn.ensures.led root h.taken_now h.refused_now seeds packages (one_within s seeds (within s listed)) h.standing
-    (before.led root taken refused seeds packages within b led)
-
-pub returns-then-branch-clause-led : goal.returns-then-branch-clause-led
-returns-then-branch-clause-led g c = λ root taken refused seeds packages within b led.
-    let s = c.candidate-item.result in
-    let before = c.loop-candidate.invariant in
-    let h = before.turned root taken refused seeds packages within b in
-    let listed = Contains-item c.args.candidates.now c.loop-candidate.candidate-index s (omega arith) c.candidate-item.is in
-    c.turn.ensures.led root h.taken_now h.refused_now seeds packages (one_within s seeds (within s listed)) h.standing
-    (before.led root taken refused seeds packages within b led)
-
-pub returns-clause-led : goal.returns-clause-led
-returns-clause-led g c = c.loop-candidate.invariant.led
-
-pub returns-clause-counted : goal.returns-clause-counted
-returns-clause-counted g c = c.loop-candidate.invariant.counted
-
-pub returns-clause-rounds : goal.returns-clause-rounds
-returns-clause-rounds g c = c.loop-candidate.invariant.rounds
-
-pub returns-clause-still : goal.returns-clause-still
-returns-clause-still g c = c.loop-candidate.invariant.still
-
-pub returns-clause-is_true : goal.returns-clause-is_true
-returns-clause-is_true g c = c.loop-candidate.invariant.is_true
-
-pub returns-clause-limits : goal.returns-clause-limits
-returns-clause-limits g c = c.loop-candidate.invariant.room
-
-pub returns-clause-refusal : goal.returns-clause-refusal
-returns-clause-refusal g c = tt
-
-pub returns-then-branch-clause-counted : goal.returns-then-branch-clause-counted
-returns-then-branch-clause-counted g c = c.in_ok-turn.ensures.counted
-
-pub returns-then-branch-clause-rounds : goal.returns-then-branch-clause-rounds
-returns-then-branch-clause-rounds g c = c.in_ok-turn.ensures.rounds
-
-pub returns-then-branch-clause-still : goal.returns-then-branch-clause-still
-returns-then-branch-clause-still g c = c.in_ok-turn.ensures.still
-
-pub returns-then-branch-clause-is_true : goal.returns-then-branch-clause-is_true
-returns-then-branch-clause-is_true g c = c.turn.ensures.is_true
-
-pub returns-then-branch-clause-limits : goal.returns-then-branch-clause-limits
-returns-then-branch-clause-limits g c = room_trans c.args.self.now c.loop-candidate.self c.turn.new.self c.loop-candidate.invariant.room c.turn.ensures.limits
-
-pub returns-then-branch-clause-refusal : goal.returns-then-branch-clause-refusal
-returns-then-branch-clause-refusal g c = tt
+pub returns-in_err-turn : goal.returns-in_err-turn
+returns-in_err-turn g c =
+    record {
+      is_true = c.turn.ensures.is_true;
+      rounds = IfOk-from_err c.from_residual.result _ c.from_residual.ensures.0;
+      still = IfOk-from_err c.from_residual.result _ c.from_residual.ensures.0;
+      counted = IfOk-from_err c.from_residual.result _ c.from_residual.ensures.0;
+      turned = IfOk-from_err c.from_residual.result _ c.from_residual.ensures.0;
+      led = λ root taken refused seeds packages within b led.
+          let s = c.candidate-item.result in
+          let before = c.loop-candidate.invariant in
+          let h = before.turned root taken refused seeds packages within b in
+          let listed = Contains-item c.args.candidates.now c.loop-candidate.candidate-index s (omega arith) c.candidate-item.is in
+          c.turn.ensures.led root h.taken_now h.refused_now seeds packages (one_within s seeds (within s listed)) h.standing
+          (before.led root taken refused seeds packages within b led);
+      limits = room_trans c.args.self.now c.loop-candidate.self c.turn.new.self c.loop-candidate.invariant.room c.turn.ensures.limits;
+      refusal = IfErr-of c.from_residual.result _ _ c.from_residual.ensures.1 c.in_err-turn.ensures.refusal;
+    }

@@ -13,24 +13,38 @@ use Rattle.resolver_clause_store.proofs.ListLemmas.{Contains-here as here}
 use Rattle.resolver_encoding.proofs.SoFarLemmas.{lawful_solvables}
 use Rattle.resolvo.proofs.LeadingLemmas.{led_wider}
 use Rattle.resolvo.proofs.RoundLemmas.{room_same, room_trans}
+use Rattle.std.proofs.lemmas.Result.{IfOk-from_err}
+use Rattle.resolver_encoding.proofs.RefusalLemmas.{IfErr-of}
+use Rattle.resolver_encoding.proofs.RefusalLemmas.{IfErr-stop}
 use Rattle.resolvo.proofs.rounds.Rounds.version_set_turn.Goals as goal
 
-pub returns-then-has_any-clause-between : goal.returns-then-has_any-clause-between
-returns-then-has_any-clause-between g c = λ root done b.
-    let u = g.D.Interner.universe c.args.provider.now in
-    let v = c.args.version_set in
-    let laws = g.met.D.DependencyProvider.lawful_packages c.args.provider.now in
-    let lawful = lawful_solvables u g.S.PartialEq.eq (g.met.D.Interner.lawful_ids c.args.provider.now)
-    (g.met.D.Interner.solvables_compare c.args.provider.now) g.met.D.Interner.solvables_are_values in
-    let same : c.deref.result.now ≡ sorted_candidates u v = c.deref.ensures.value ∙ c.in_ok-candidates.ensures.value in
-    let m : Meets c.deref.result.now c.solvables.result.now.keys = c.if-has_any.ensures in
-    let Has : List g.row.S.Denot → Type 0 = λ list. Contains list m.shared in
-    between_met u root done v c.args.self.now
-    (record {
-      shared = m.shared;
-      in_first = sorted_matches u laws lawful.same_solvable v m.shared (subst Has same m.in_first);
-      in_second = subst Has c.solvables.ensures m.in_second;
-    }) b
+pub returns-then-has_any : goal.returns-then-has_any
+returns-then-has_any g c =
+    record {
+      is_true = c.in_ok-candidates.ensures.is_true;
+      rounds = c.requires.rounds;
+      still = c.requires.still;
+      counted = c.requires.counted;
+      between = λ root done b.
+          let u = g.D.Interner.universe c.args.provider.now in
+          let v = c.args.version_set in
+          let laws = g.met.D.DependencyProvider.lawful_packages c.args.provider.now in
+          let lawful = lawful_solvables u g.S.PartialEq.eq (g.met.D.Interner.lawful_ids c.args.provider.now)
+          (g.met.D.Interner.solvables_compare c.args.provider.now) g.met.D.Interner.solvables_are_values in
+          let same : c.deref.result.now ≡ sorted_candidates u v = c.deref.ensures.value ∙ c.in_ok-candidates.ensures.value in
+          let m : Meets c.deref.result.now c.solvables.result.now.keys = c.if-has_any.ensures in
+          let Has : List g.row.S.Denot → Type 0 = λ list. Contains list m.shared in
+          between_met u root done v c.args.self.now
+          (record {
+            shared = m.shared;
+            in_first = sorted_matches u laws lawful.same_solvable v m.shared (subst Has same m.in_first);
+            in_second = subst Has c.solvables.ensures m.in_second;
+          }) b;
+      led = λ root done b led.
+          led_wider (g.D.Interner.universe c.args.provider.now) root done (Matching c.args.version_set) c.args.self.now led;
+      limits = room_same c.args.self.now;
+      refusal = tt;
+    }
 
 pub take_first-requires-clause-asked : goal.take_first-requires-clause-asked
 take_first-requires-clause-asked g c = λ k d below.
@@ -56,144 +70,132 @@ take_first-requires-clause-none g c = λ m.
       in_second = subst Has (c.in_ok-ask.ensures.chosen ∙ sym c.solvables.ensures) m.in_second;
     })
 
-pub returns-clause-between : goal.returns-clause-between
-returns-clause-between g c = λ root done b.
-    let u = g.D.Interner.universe c.args.provider.now in
-    let v = c.args.version_set in
-    let laws = g.met.D.DependencyProvider.lawful_packages c.args.provider.now in
-    let lawful = lawful_solvables u g.S.PartialEq.eq (g.met.D.Interner.lawful_ids c.args.provider.now)
-    (g.met.D.Interner.solvables_compare c.args.provider.now) g.met.D.Interner.solvables_are_values in
-    let old = c.args.self.now in
-    let all = c.deref-2.result.now in
-    let same : all ≡ sorted_candidates u v = c.deref-2.ensures.value ∙ c.in_ok-candidates.ensures.value in
-    let r : SoftRequirement g.row.S.Denot = Matching v in
-    let seeds : List g.row.S.Denot = flat_map (options u) (done ++ r ∷ []) in
-    let packages : List g.row.N.Denot = flat_map (own_packages u) (done ++ r ∷ []) in
-    let match : IsWithin all (matching u v) = λ s h. let Has : List g.row.S.Denot → Type 0 = λ list. Contains list s in
-    sorted_matches u laws lawful.same_solvable v s (subst Has same h) in
-    let every : IsWithin (matching u v) all = λ s h. let Has : List g.row.S.Denot → Type 0 = λ list. Contains list s in
-    subst Has (sym same) (sorted_has u lawful.same_solvable laws v s h) in
-    let own : Contains packages (u.version_set_name v) = gathered_last (own_packages u) done r (u.version_set_name v) (here (u.version_set_name v) []) in
-    let never : Meets (matching u v) (chosen_of old) → ⊥ = λ m.
-    let Has : List g.row.S.Denot → Type 0 = λ list. Contains list m.shared in
-    c.if-has_any.ensures (record {
-      shared = m.shared;
-      in_first = subst Has (c.deref-2.ensures.value ∙ sym c.deref.ensures.value) (every m.shared m.in_first);
-      in_second = subst Has (sym c.solvables.ensures) m.in_second;
-    })
-    in
-    let alone = c.in_ok-ask.ensures.alone in
-    between_tried u root done v all old c.ask.new.self c.take_first.new.self _ b never match every c.in_ok-ask.ensures.chosen alone.exempt alone.asked.stays
-    (alone.asked.all (u.version_set_name v) refl)
-    (c.in_ok-take_first.ensures.turned root b.taken b.refused seeds packages (λ s h. gathered_last (options u) done r s (match s h))
-    (c.in_ok-ask.ensures.standing root b.taken b.refused seeds packages own (standing_for u root done r b.taken b.refused old b.standing)))
-
-pub returns-in_err-candidates-clause-led : goal.returns-in_err-candidates-clause-led
-returns-in_err-candidates-clause-led g c = λ root done b led.
-    led_wider (g.D.Interner.universe c.args.provider.now) root done (Matching c.args.version_set) c.args.self.now led
-
-pub returns-then-has_any-clause-led : goal.returns-then-has_any-clause-led
-returns-then-has_any-clause-led g c = λ root done b led.
-    led_wider (g.D.Interner.universe c.args.provider.now) root done (Matching c.args.version_set) c.args.self.now led
-
-pub returns-in_err-ask-clause-led : goal.returns-in_err-ask-clause-led
-returns-in_err-ask-clause-led g c = λ root done b led.
-    let u = g.D.Interner.universe c.args.provider.now in
-    let v = c.args.version_set in
-    let r : SoftRequirement g.row.S.Denot = Matching v in
-    let old = c.args.self.now in
-    let seeds : List g.row.S.Denot = flat_map (options u) (done ++ r ∷ []) in
-    let packages : List g.row.N.Denot = flat_map (own_packages u) (done ++ r ∷ []) in
-    let own : Contains packages (u.version_set_name v) = gathered_last (own_packages u) done r (u.version_set_name v) (here (u.version_set_name v) []) in
-    let standing = standing_for u root done r b.taken b.refused old b.standing in
-    let asked = c.ask.ensures.led root b.taken b.refused seeds packages own standing (led_wider u root done r old led).all in
-    record { all = asked }
-
-pub returns-in_err-take_first-clause-led : goal.returns-in_err-take_first-clause-led
-returns-in_err-take_first-clause-led g c = λ root done b led.
-    let u = g.D.Interner.universe c.args.provider.now in
-    let v = c.args.version_set in
-    let r : SoftRequirement g.row.S.Denot = Matching v in
-    let old = c.args.self.now in
-    let seeds : List g.row.S.Denot = flat_map (options u) (done ++ r ∷ []) in
-    let packages : List g.row.N.Denot = flat_map (own_packages u) (done ++ r ∷ []) in
-    let own : Contains packages (u.version_set_name v) = gathered_last (own_packages u) done r (u.version_set_name v) (here (u.version_set_name v) []) in
-    let standing = standing_for u root done r b.taken b.refused old b.standing in
-    let asked = c.ask.ensures.led root b.taken b.refused seeds packages own standing (led_wider u root done r old led).all in
-    let laws = g.met.D.DependencyProvider.lawful_packages c.args.provider.now in
-    let lawful = lawful_solvables u g.S.PartialEq.eq (g.met.D.Interner.lawful_ids c.args.provider.now)
-    (g.met.D.Interner.solvables_compare c.args.provider.now) g.met.D.Interner.solvables_are_values in
-    let same : c.deref-2.result.now ≡ sorted_candidates u v = c.deref-2.ensures.value ∙ c.in_ok-candidates.ensures.value in
-    let within : IsWithin c.deref-2.result.now seeds = λ s h. let Has : List g.row.S.Denot → Type 0 = λ list. Contains list s in
-    gathered_last (options u) done r s (sorted_matches u laws lawful.same_solvable v s (subst Has same h)) in
+pub returns : goal.returns
+returns g c =
     record {
-      all = c.take_first.ensures.led root b.taken b.refused seeds packages within
-          (c.in_ok-ask.ensures.standing root b.taken b.refused seeds packages own standing) asked;
+      is_true = c.take_first.ensures.is_true;
+      rounds = c.in_ok-take_first.ensures.rounds;
+      still = c.in_ok-take_first.ensures.still;
+      counted = c.in_ok-take_first.ensures.counted;
+      between = λ root done b.
+          let u = g.D.Interner.universe c.args.provider.now in
+          let v = c.args.version_set in
+          let laws = g.met.D.DependencyProvider.lawful_packages c.args.provider.now in
+          let lawful = lawful_solvables u g.S.PartialEq.eq (g.met.D.Interner.lawful_ids c.args.provider.now)
+          (g.met.D.Interner.solvables_compare c.args.provider.now) g.met.D.Interner.solvables_are_values in
+          let old = c.args.self.now in
+          let all = c.deref-2.result.now in
+          let same : all ≡ sorted_candidates u v = c.deref-2.ensures.value ∙ c.in_ok-candidates.ensures.value in
+          let r : SoftRequirement g.row.S.Denot = Matching v in
+          let seeds : List g.row.S.Denot = flat_map (options u) (done ++ r ∷ []) in
+          let packages : List g.row.N.Denot = flat_map (own_packages u) (done ++ r ∷ []) in
+          let match : IsWithin all (matching u v) = λ s h. let Has : List g.row.S.Denot → Type 0 = λ list. Contains list s in
+          sorted_matches u laws lawful.same_solvable v s (subst Has same h) in
+          let every : IsWithin (matching u v) all = λ s h. let Has : List g.row.S.Denot → Type 0 = λ list. Contains list s in
+          subst Has (sym same) (sorted_has u lawful.same_solvable laws v s h) in
+          let own : Contains packages (u.version_set_name v) = gathered_last (own_packages u) done r (u.version_set_name v) (here (u.version_set_name v) []) in
+          let never : Meets (matching u v) (chosen_of old) → ⊥ = λ m.
+          let Has : List g.row.S.Denot → Type 0 = λ list. Contains list m.shared in
+          c.if-has_any.ensures (record {
+            shared = m.shared;
+            in_first = subst Has (c.deref-2.ensures.value ∙ sym c.deref.ensures.value) (every m.shared m.in_first);
+            in_second = subst Has (sym c.solvables.ensures) m.in_second;
+          })
+          in
+          let alone = c.in_ok-ask.ensures.alone in
+          between_tried u root done v all old c.ask.new.self c.take_first.new.self _ b never match every c.in_ok-ask.ensures.chosen alone.exempt alone.asked.stays
+          (alone.asked.all (u.version_set_name v) refl)
+          (c.in_ok-take_first.ensures.turned root b.taken b.refused seeds packages (λ s h. gathered_last (options u) done r s (match s h))
+          (c.in_ok-ask.ensures.standing root b.taken b.refused seeds packages own (standing_for u root done r b.taken b.refused old b.standing)));
+      led = λ root done b led.
+          let u = g.D.Interner.universe c.args.provider.now in
+          let v = c.args.version_set in
+          let r : SoftRequirement g.row.S.Denot = Matching v in
+          let old = c.args.self.now in
+          let seeds : List g.row.S.Denot = flat_map (options u) (done ++ r ∷ []) in
+          let packages : List g.row.N.Denot = flat_map (own_packages u) (done ++ r ∷ []) in
+          let own : Contains packages (u.version_set_name v) = gathered_last (own_packages u) done r (u.version_set_name v) (here (u.version_set_name v) []) in
+          let standing = standing_for u root done r b.taken b.refused old b.standing in
+          let asked = c.ask.ensures.led root b.taken b.refused seeds packages own standing (led_wider u root done r old led).all in
+          let laws = g.met.D.DependencyProvider.lawful_packages c.args.provider.now in
+          let lawful = lawful_solvables u g.S.PartialEq.eq (g.met.D.Interner.lawful_ids c.args.provider.now)
+          (g.met.D.Interner.solvables_compare c.args.provider.now) g.met.D.Interner.solvables_are_values in
+          let same : c.deref-2.result.now ≡ sorted_candidates u v = c.deref-2.ensures.value ∙ c.in_ok-candidates.ensures.value in
+          let within : IsWithin c.deref-2.result.now seeds = λ s h. let Has : List g.row.S.Denot → Type 0 = λ list. Contains list s in
+          gathered_last (options u) done r s (sorted_matches u laws lawful.same_solvable v s (subst Has same h)) in
+          record {
+            all = c.take_first.ensures.led root b.taken b.refused seeds packages within
+                (c.in_ok-ask.ensures.standing root b.taken b.refused seeds packages own standing) asked;
+          };
+      limits = room_trans c.args.self.now c.ask.new.self c.take_first.new.self c.ask.ensures.limits c.take_first.ensures.limits;
+      refusal = tt;
     }
 
-pub returns-clause-led : goal.returns-clause-led
-returns-clause-led g c = λ root done b led.
-    let u = g.D.Interner.universe c.args.provider.now in
-    let v = c.args.version_set in
-    let r : SoftRequirement g.row.S.Denot = Matching v in
-    let old = c.args.self.now in
-    let seeds : List g.row.S.Denot = flat_map (options u) (done ++ r ∷ []) in
-    let packages : List g.row.N.Denot = flat_map (own_packages u) (done ++ r ∷ []) in
-    let own : Contains packages (u.version_set_name v) = gathered_last (own_packages u) done r (u.version_set_name v) (here (u.version_set_name v) []) in
-    let standing = standing_for u root done r b.taken b.refused old b.standing in
-    let asked = c.ask.ensures.led root b.taken b.refused seeds packages own standing (led_wider u root done r old led).all in
-    let laws = g.met.D.DependencyProvider.lawful_packages c.args.provider.now in
-    let lawful = lawful_solvables u g.S.PartialEq.eq (g.met.D.Interner.lawful_ids c.args.provider.now)
-    (g.met.D.Interner.solvables_compare c.args.provider.now) g.met.D.Interner.solvables_are_values in
-    let same : c.deref-2.result.now ≡ sorted_candidates u v = c.deref-2.ensures.value ∙ c.in_ok-candidates.ensures.value in
-    let within : IsWithin c.deref-2.result.now seeds = λ s h. let Has : List g.row.S.Denot → Type 0 = λ list. Contains list s in
-    gathered_last (options u) done r s (sorted_matches u laws lawful.same_solvable v s (subst Has same h)) in
+pub returns-in_err-candidates : goal.returns-in_err-candidates
+returns-in_err-candidates g c =
     record {
-      all = c.take_first.ensures.led root b.taken b.refused seeds packages within
-          (c.in_ok-ask.ensures.standing root b.taken b.refused seeds packages own standing) asked;
+      is_true = c.requirement_candidates.ensures.is_true;
+      rounds = IfOk-from_err c.from_residual.result _ c.from_residual.ensures.0;
+      still = IfOk-from_err c.from_residual.result _ c.from_residual.ensures.0;
+      counted = IfOk-from_err c.from_residual.result _ c.from_residual.ensures.0;
+      between = IfOk-from_err c.from_residual.result _ c.from_residual.ensures.0;
+      led = λ root done b led.
+          led_wider (g.D.Interner.universe c.args.provider.now) root done (Matching c.args.version_set) c.args.self.now led;
+      limits = room_same c.args.self.now;
+      refusal = IfErr-stop c.from_residual.result (g.D.DependencyProvider.may_cancel c.args.provider.now) _ _ c.from_residual.ensures.1 c.in_err-candidates.ensures.refusal;
     }
 
-pub returns-clause-counted : goal.returns-clause-counted
-returns-clause-counted g c = c.in_ok-take_first.ensures.counted
+pub returns-in_err-ask : goal.returns-in_err-ask
+returns-in_err-ask g c =
+    record {
+      is_true = c.ask.ensures.is_true;
+      rounds = IfOk-from_err c.from_residual-in_err-ask.result _ c.from_residual-in_err-ask.ensures.0;
+      still = IfOk-from_err c.from_residual-in_err-ask.result _ c.from_residual-in_err-ask.ensures.0;
+      counted = IfOk-from_err c.from_residual-in_err-ask.result _ c.from_residual-in_err-ask.ensures.0;
+      between = IfOk-from_err c.from_residual-in_err-ask.result _ c.from_residual-in_err-ask.ensures.0;
+      led = λ root done b led.
+          let u = g.D.Interner.universe c.args.provider.now in
+          let v = c.args.version_set in
+          let r : SoftRequirement g.row.S.Denot = Matching v in
+          let old = c.args.self.now in
+          let seeds : List g.row.S.Denot = flat_map (options u) (done ++ r ∷ []) in
+          let packages : List g.row.N.Denot = flat_map (own_packages u) (done ++ r ∷ []) in
+          let own : Contains packages (u.version_set_name v) = gathered_last (own_packages u) done r (u.version_set_name v) (here (u.version_set_name v) []) in
+          let standing = standing_for u root done r b.taken b.refused old b.standing in
+          let asked = c.ask.ensures.led root b.taken b.refused seeds packages own standing (led_wider u root done r old led).all in
+          record { all = asked };
+      limits = c.ask.ensures.limits;
+      refusal = IfErr-of c.from_residual-in_err-ask.result _ _ c.from_residual-in_err-ask.ensures.1 c.in_err-ask.ensures.refusal;
+    }
 
-pub returns-clause-rounds : goal.returns-clause-rounds
-returns-clause-rounds g c = c.in_ok-take_first.ensures.rounds
-
-pub returns-clause-still : goal.returns-clause-still
-returns-clause-still g c = c.in_ok-take_first.ensures.still
-
-pub returns-clause-is_true : goal.returns-clause-is_true
-returns-clause-is_true g c = c.take_first.ensures.is_true
-
-pub returns-clause-limits : goal.returns-clause-limits
-returns-clause-limits g c = room_trans c.args.self.now c.ask.new.self c.take_first.new.self c.ask.ensures.limits c.take_first.ensures.limits
-
-pub returns-clause-refusal : goal.returns-clause-refusal
-returns-clause-refusal g c = tt
-
-pub returns-then-has_any-clause-counted : goal.returns-then-has_any-clause-counted
-returns-then-has_any-clause-counted g c = c.requires.counted
-
-pub returns-then-has_any-clause-rounds : goal.returns-then-has_any-clause-rounds
-returns-then-has_any-clause-rounds g c = c.requires.rounds
-
-pub returns-then-has_any-clause-still : goal.returns-then-has_any-clause-still
-returns-then-has_any-clause-still g c = c.requires.still
-
-pub returns-then-has_any-clause-limits : goal.returns-then-has_any-clause-limits
-returns-then-has_any-clause-limits g c = room_same c.args.self.now
-
-pub returns-then-has_any-clause-refusal : goal.returns-then-has_any-clause-refusal
-returns-then-has_any-clause-refusal g c = tt
-
-pub returns-in_err-ask-clause-limits : goal.returns-in_err-ask-clause-limits
-returns-in_err-ask-clause-limits g c = c.ask.ensures.limits
-
-pub returns-in_err-candidates-clause-limits : goal.returns-in_err-candidates-clause-limits
-returns-in_err-candidates-clause-limits g c = room_same c.args.self.now
-
-pub returns-in_err-take_first-clause-limits : goal.returns-in_err-take_first-clause-limits
-returns-in_err-take_first-clause-limits g c = room_trans c.args.self.now c.ask.new.self c.take_first.new.self c.ask.ensures.limits c.take_first.ensures.limits
-
-pub returns-then-has_any-clause-is_true : goal.returns-then-has_any-clause-is_true
-returns-then-has_any-clause-is_true g c = c.in_ok-candidates.ensures.is_true
+pub returns-in_err-take_first : goal.returns-in_err-take_first
+returns-in_err-take_first g c =
+    record {
+      is_true = c.take_first.ensures.is_true;
+      rounds = IfOk-from_err c.from_residual-in_err-take_first.result _ c.from_residual-in_err-take_first.ensures.0;
+      still = IfOk-from_err c.from_residual-in_err-take_first.result _ c.from_residual-in_err-take_first.ensures.0;
+      counted = IfOk-from_err c.from_residual-in_err-take_first.result _ c.from_residual-in_err-take_first.ensures.0;
+      between = IfOk-from_err c.from_residual-in_err-take_first.result _ c.from_residual-in_err-take_first.ensures.0;
+      led = λ root done b led.
+          let u = g.D.Interner.universe c.args.provider.now in
+          let v = c.args.version_set in
+          let r : SoftRequirement g.row.S.Denot = Matching v in
+          let old = c.args.self.now in
+          let seeds : List g.row.S.Denot = flat_map (options u) (done ++ r ∷ []) in
+          let packages : List g.row.N.Denot = flat_map (own_packages u) (done ++ r ∷ []) in
+          let own : Contains packages (u.version_set_name v) = gathered_last (own_packages u) done r (u.version_set_name v) (here (u.version_set_name v) []) in
+          let standing = standing_for u root done r b.taken b.refused old b.standing in
+          let asked = c.ask.ensures.led root b.taken b.refused seeds packages own standing (led_wider u root done r old led).all in
+          let laws = g.met.D.DependencyProvider.lawful_packages c.args.provider.now in
+          let lawful = lawful_solvables u g.S.PartialEq.eq (g.met.D.Interner.lawful_ids c.args.provider.now)
+          (g.met.D.Interner.solvables_compare c.args.provider.now) g.met.D.Interner.solvables_are_values in
+          let same : c.deref-2.result.now ≡ sorted_candidates u v = c.deref-2.ensures.value ∙ c.in_ok-candidates.ensures.value in
+          let within : IsWithin c.deref-2.result.now seeds = λ s h. let Has : List g.row.S.Denot → Type 0 = λ list. Contains list s in
+          gathered_last (options u) done r s (sorted_matches u laws lawful.same_solvable v s (subst Has same h)) in
+          record {
+            all = c.take_first.ensures.led root b.taken b.refused seeds packages within
+                (c.in_ok-ask.ensures.standing root b.taken b.refused seeds packages own standing) asked;
+          };
+      limits = room_trans c.args.self.now c.ask.new.self c.take_first.new.self c.ask.ensures.limits c.take_first.ensures.limits;
+      refusal = IfErr-of c.from_residual-in_err-take_first.result _ _ c.from_residual-in_err-take_first.ensures.1 c.in_err-take_first.ensures.refusal;
+    }
