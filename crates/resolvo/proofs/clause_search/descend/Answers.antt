@@ -7,16 +7,27 @@ use Rattle.resolvo.proofs.TurnLemmas.{none-extends, none-trans}
 use Rattle.resolver_clause_store.specs.declared.Watches.{Watches}
 use Rattle.resolver_clause_store.specs.WatchesView.{pairs_of}
 use Rattle.resolvo.proofs.WatchedLemmas.{owned-of, owned-same, refused-any}
+use Rattle.std.proofs.lemmas.Result.{IfOk-from_err}
+use Rattle.resolver_encoding.proofs.RefusalLemmas.{IfErr-of}
+use Rattle.std.proofs.Common.{refl}
 use Rattle.resolvo.proofs.clause_search.descend.Goals as goal
 
-pub returns-in-Some-clause-chosen : goal.returns-in-Some-clause-chosen
-returns-in-Some-clause-chosen g c = chosen-extends _ _ _ _ c.requires.chosen c.in_ok-number.ensures.step.extends
-
-pub returns-in-Some-clause-kept : goal.returns-in-Some-clause-kept
-returns-in-Some-clause-kept g c = keeps_all _ _ (record { kept = c.in_ok-number.ensures.step.extends.kept })
-
-pub returns-in-Some-clause-assumed : goal.returns-in-Some-clause-assumed
-returns-in-Some-clause-assumed g c = none-extends _ _ c.in_ok-number.ensures.step.extends
+pub returns-in-Some : goal.returns-in-Some
+returns-in-Some g c =
+    record {
+      conflict = rw c.in-Some.is at c.in_ok-number.ensures.conflict;
+      settled = tt;
+      met = tt;
+      propagator = c.in_ok-number.ensures.propagator;
+      refused = tt;
+      justified = c.in_ok-number.ensures.step.justified;
+      chosen = chosen-extends _ _ _ _ c.requires.chosen c.in_ok-number.ensures.step.extends;
+      size = c.in_ok-number.ensures.step.size;
+      kept = keeps_all _ _ (record { kept = c.in_ok-number.ensures.step.extends.kept });
+      assumed = none-extends _ _ c.in_ok-number.ensures.step.extends;
+      queued = queued-longer _ _ _ _ _ (keeps_all _ _ (record { kept = c.in_ok-number.ensures.step.extends.kept })) c.requires.queued;
+      refusal = tt;
+    }
 
 pub rounds-init : goal.rounds-init
 rounds-init g c =
@@ -32,29 +43,39 @@ rounds-init g c =
       assumed = none-extends _ _ first.step.extends;
     }
 
-pub returns-in-Some-2-clause-chosen : goal.returns-in-Some-2-clause-chosen
-returns-in-Some-2-clause-chosen g c = chosen-extends _ _ _ _ c.rounds.invariant.chosen c.propagate.ensures.extends
+pub returns-in-Some-2 : goal.returns-in-Some-2
+returns-in-Some-2 g c =
+    record {
+      conflict = rw c.in-Some-2.is at c.in_ok-number-2.ensures.conflict;
+      settled = tt;
+      met = tt;
+      propagator = c.in_ok-number-2.ensures.propagator;
+      refused = tt;
+      justified = c.propagate.ensures.justified;
+      chosen = chosen-extends _ _ _ _ c.rounds.invariant.chosen c.propagate.ensures.extends;
+      size = c.propagate.ensures.size ∙ c.rounds.invariant.size;
+      kept = keeps_extended _ _ _ _ c.rounds.invariant.kept c.propagate.ensures.extends;
+      assumed = none-trans _ _ _ c.rounds.invariant.assumed (none-extends _ _ c.propagate.ensures.extends);
+      queued = queued-longer _ _ _ _ _ (keeps_all _ _ (record { kept = c.propagate.ensures.extends.kept })) c.rounds.invariant.queued;
+      refusal = tt;
+    }
 
-pub returns-in-Some-2-clause-kept : goal.returns-in-Some-2-clause-kept
-returns-in-Some-2-clause-kept g c = keeps_extended _ _ _ _ c.rounds.invariant.kept c.propagate.ensures.extends
-
-pub returns-in-Some-2-clause-assumed : goal.returns-in-Some-2-clause-assumed
-returns-in-Some-2-clause-assumed g c = none-trans _ _ _ c.rounds.invariant.assumed (none-extends _ _ c.propagate.ensures.extends)
-
-pub returns-in-None-clause-assumed : goal.returns-in-None-clause-assumed
-returns-in-None-clause-assumed g c = none-trans _ _ _ c.rounds.invariant.assumed (none-extends _ _ c.propagate.ensures.extends)
-
-pub returns-in-None-clause-chosen : goal.returns-in-None-clause-chosen
-returns-in-None-clause-chosen g c = chosen-extends _ _ _ _ c.rounds.invariant.chosen c.propagate.ensures.extends
-
-pub returns-in-None-clause-kept : goal.returns-in-None-clause-kept
-returns-in-None-clause-kept g c = keeps_extended _ _ _ _ c.rounds.invariant.kept c.propagate.ensures.extends
-
-pub returns-in-Some-clause-queued : goal.returns-in-Some-clause-queued
-returns-in-Some-clause-queued g c = queued-longer _ _ _ _ _ (keeps_all _ _ (record { kept = c.in_ok-number.ensures.step.extends.kept })) c.requires.queued
-
-pub returns-in-Some-2-clause-queued : goal.returns-in-Some-2-clause-queued
-returns-in-Some-2-clause-queued g c = queued-longer _ _ _ _ _ (keeps_all _ _ (record { kept = c.propagate.ensures.extends.kept })) c.rounds.invariant.queued
+pub returns-in-None : goal.returns-in-None
+returns-in-None g c =
+    record {
+      conflict = tt;
+      settled = rw c.in_default-2.is at c.in_ok-number-2.ensures.settled;
+      met = rw c.in-None.is at c.in_ok-choice.ensures.none;
+      propagator = c.in_ok-number-2.ensures.propagator;
+      refused = tt;
+      justified = c.propagate.ensures.justified;
+      chosen = chosen-extends _ _ _ _ c.rounds.invariant.chosen c.propagate.ensures.extends;
+      size = c.propagate.ensures.size ∙ c.rounds.invariant.size;
+      kept = keeps_extended _ _ _ _ c.rounds.invariant.kept c.propagate.ensures.extends;
+      assumed = none-trans _ _ _ c.rounds.invariant.assumed (none-extends _ _ c.propagate.ensures.extends);
+      queued = c.in_ok-choice.ensures.queued;
+      refusal = tt;
+    }
 
 pub next-requires-clause-queued : goal.next-requires-clause-queued
 next-requires-clause-queued g c = queued-longer _ _ _ _ _ (keeps_all _ _ (record { kept = c.propagate.ensures.extends.kept })) c.rounds.invariant.queued
@@ -73,18 +94,104 @@ rounds-preserved g c =
       assumed = none-trans _ _ _ (none-trans _ _ _ c.rounds.invariant.assumed (none-extends _ _ c.propagate.ensures.extends)) took.assumed;
     }
 
-pub returns-in_err-check_cancel-clause-refused : goal.returns-in_err-check_cancel-clause-refused
-returns-in_err-check_cancel-clause-refused g c = refused-any _ _ (owned-of _ _ _ c.requires.propagator)
+pub returns-in_err-check_cancel : goal.returns-in_err-check_cancel
+returns-in_err-check_cancel g c =
+    record {
+      conflict = IfOk-from_err c.from_residual.result _ c.from_residual.ensures.0;
+      settled = IfOk-from_err c.from_residual.result _ c.from_residual.ensures.0;
+      met = IfOk-from_err c.from_residual.result _ c.from_residual.ensures.0;
+      propagator = IfOk-from_err c.from_residual.result _ c.from_residual.ensures.0;
+      refused = refused-any _ _ (owned-of _ _ _ c.requires.propagator);
+      justified = IfOk-from_err c.from_residual.result _ c.from_residual.ensures.0;
+      chosen = IfOk-from_err c.from_residual.result _ c.from_residual.ensures.0;
+      size = IfOk-from_err c.from_residual.result _ c.from_residual.ensures.0;
+      kept = IfOk-from_err c.from_residual.result _ c.from_residual.ensures.0;
+      assumed = IfOk-from_err c.from_residual.result _ c.from_residual.ensures.0;
+      queued = IfOk-from_err c.from_residual.result _ c.from_residual.ensures.0;
+      refusal = IfErr-of c.from_residual.result _ _ c.from_residual.ensures.1 c.in_err-check_cancel.ensures;
+    }
 
-pub returns-in_err-number-clause-refused : goal.returns-in_err-number-clause-refused
-returns-in_err-number-clause-refused g c =
-    refused-any _ _ (owned-same _ _ _ (ap (λ (w : Watches). pairs_of w) c.apply_all_pending.ensures.watches) (owned-of _ _ _ c.requires.propagator))
+pub returns-in_err-number : goal.returns-in_err-number
+returns-in_err-number g c =
+    record {
+      conflict = IfOk-from_err c.from_residual-in_err-number.result _ c.from_residual-in_err-number.ensures.0;
+      settled = IfOk-from_err c.from_residual-in_err-number.result _ c.from_residual-in_err-number.ensures.0;
+      met = IfOk-from_err c.from_residual-in_err-number.result _ c.from_residual-in_err-number.ensures.0;
+      propagator = IfOk-from_err c.from_residual-in_err-number.result _ c.from_residual-in_err-number.ensures.0;
+      refused =     refused-any _ _ (owned-same _ _ _ (ap (λ (w : Watches). pairs_of w) c.apply_all_pending.ensures.watches) (owned-of _ _ _ c.requires.propagator));
+      justified = IfOk-from_err c.from_residual-in_err-number.result _ c.from_residual-in_err-number.ensures.0;
+      chosen = IfOk-from_err c.from_residual-in_err-number.result _ c.from_residual-in_err-number.ensures.0;
+      size = IfOk-from_err c.from_residual-in_err-number.result _ c.from_residual-in_err-number.ensures.0;
+      kept = IfOk-from_err c.from_residual-in_err-number.result _ c.from_residual-in_err-number.ensures.0;
+      assumed = IfOk-from_err c.from_residual-in_err-number.result _ c.from_residual-in_err-number.ensures.0;
+      queued = IfOk-from_err c.from_residual-in_err-number.result _ c.from_residual-in_err-number.ensures.0;
+      refusal = IfErr-of c.from_residual-in_err-number.result _ _ c.from_residual-in_err-number.ensures.1 refl;
+    }
 
-pub returns-in_err-choice-clause-refused : goal.returns-in_err-choice-clause-refused
-returns-in_err-choice-clause-refused g c = refused-any _ _ (owned-of _ _ _ c.in_ok-number-2.ensures.propagator)
+pub returns-in_err-choice : goal.returns-in_err-choice
+returns-in_err-choice g c =
+    record {
+      conflict = IfOk-from_err c.from_residual-in_err-choice.result _ c.from_residual-in_err-choice.ensures.0;
+      settled = IfOk-from_err c.from_residual-in_err-choice.result _ c.from_residual-in_err-choice.ensures.0;
+      met = IfOk-from_err c.from_residual-in_err-choice.result _ c.from_residual-in_err-choice.ensures.0;
+      propagator = IfOk-from_err c.from_residual-in_err-choice.result _ c.from_residual-in_err-choice.ensures.0;
+      refused = refused-any _ _ (owned-of _ _ _ c.in_ok-number-2.ensures.propagator);
+      justified = IfOk-from_err c.from_residual-in_err-choice.result _ c.from_residual-in_err-choice.ensures.0;
+      chosen = IfOk-from_err c.from_residual-in_err-choice.result _ c.from_residual-in_err-choice.ensures.0;
+      size = IfOk-from_err c.from_residual-in_err-choice.result _ c.from_residual-in_err-choice.ensures.0;
+      kept = IfOk-from_err c.from_residual-in_err-choice.result _ c.from_residual-in_err-choice.ensures.0;
+      assumed = IfOk-from_err c.from_residual-in_err-choice.result _ c.from_residual-in_err-choice.ensures.0;
+      queued = IfOk-from_err c.from_residual-in_err-choice.result _ c.from_residual-in_err-choice.ensures.0;
+      refusal = IfErr-of c.from_residual-in_err-choice.result _ _ c.from_residual-in_err-choice.ensures.1 refl;
+    }
 
-pub returns-in_err-take-in-Some-3-clause-refused : goal.returns-in_err-take-in-Some-3-clause-refused
-returns-in_err-take-in-Some-3-clause-refused g c = refused-any _ _ (owned-of _ _ _ c.in_ok-number-2.ensures.propagator)
+pub returns-in_err-take-in-Some-3 : goal.returns-in_err-take-in-Some-3
+returns-in_err-take-in-Some-3 g c =
+    record {
+      conflict = IfOk-from_err c.from_residual-in_err-take-in-Some-3.result _ c.from_residual-in_err-take-in-Some-3.ensures.0;
+      settled = IfOk-from_err c.from_residual-in_err-take-in-Some-3.result _ c.from_residual-in_err-take-in-Some-3.ensures.0;
+      met = IfOk-from_err c.from_residual-in_err-take-in-Some-3.result _ c.from_residual-in_err-take-in-Some-3.ensures.0;
+      propagator = IfOk-from_err c.from_residual-in_err-take-in-Some-3.result _ c.from_residual-in_err-take-in-Some-3.ensures.0;
+      refused = refused-any _ _ (owned-of _ _ _ c.in_ok-number-2.ensures.propagator);
+      justified = IfOk-from_err c.from_residual-in_err-take-in-Some-3.result _ c.from_residual-in_err-take-in-Some-3.ensures.0;
+      chosen = IfOk-from_err c.from_residual-in_err-take-in-Some-3.result _ c.from_residual-in_err-take-in-Some-3.ensures.0;
+      size = IfOk-from_err c.from_residual-in_err-take-in-Some-3.result _ c.from_residual-in_err-take-in-Some-3.ensures.0;
+      kept = IfOk-from_err c.from_residual-in_err-take-in-Some-3.result _ c.from_residual-in_err-take-in-Some-3.ensures.0;
+      assumed = IfOk-from_err c.from_residual-in_err-take-in-Some-3.result _ c.from_residual-in_err-take-in-Some-3.ensures.0;
+      queued = IfOk-from_err c.from_residual-in_err-take-in-Some-3.result _ c.from_residual-in_err-take-in-Some-3.ensures.0;
+      refusal = IfErr-of c.from_residual-in_err-take-in-Some-3.result _ _ c.from_residual-in_err-take-in-Some-3.ensures.1 refl;
+    }
 
-pub returns-in_err-check_cancel-2-clause-refused : goal.returns-in_err-check_cancel-2-clause-refused
-returns-in_err-check_cancel-2-clause-refused g c = refused-any _ _ (owned-of _ _ _ c.in_ok-number-2.ensures.propagator)
+pub returns-in_err-check_cancel-2 : goal.returns-in_err-check_cancel-2
+returns-in_err-check_cancel-2 g c =
+    record {
+      conflict = IfOk-from_err c.from_residual-in_err-check_cancel-2.result _ c.from_residual-in_err-check_cancel-2.ensures.0;
+      settled = IfOk-from_err c.from_residual-in_err-check_cancel-2.result _ c.from_residual-in_err-check_cancel-2.ensures.0;
+      met = IfOk-from_err c.from_residual-in_err-check_cancel-2.result _ c.from_residual-in_err-check_cancel-2.ensures.0;
+      propagator = IfOk-from_err c.from_residual-in_err-check_cancel-2.result _ c.from_residual-in_err-check_cancel-2.ensures.0;
+      refused = refused-any _ _ (owned-of _ _ _ c.in_ok-number-2.ensures.propagator);
+      justified = IfOk-from_err c.from_residual-in_err-check_cancel-2.result _ c.from_residual-in_err-check_cancel-2.ensures.0;
+      chosen = IfOk-from_err c.from_residual-in_err-check_cancel-2.result _ c.from_residual-in_err-check_cancel-2.ensures.0;
+      size = IfOk-from_err c.from_residual-in_err-check_cancel-2.result _ c.from_residual-in_err-check_cancel-2.ensures.0;
+      kept = IfOk-from_err c.from_residual-in_err-check_cancel-2.result _ c.from_residual-in_err-check_cancel-2.ensures.0;
+      assumed = IfOk-from_err c.from_residual-in_err-check_cancel-2.result _ c.from_residual-in_err-check_cancel-2.ensures.0;
+      queued = IfOk-from_err c.from_residual-in_err-check_cancel-2.result _ c.from_residual-in_err-check_cancel-2.ensures.0;
+      refusal = IfErr-of c.from_residual-in_err-check_cancel-2.result _ _ c.from_residual-in_err-check_cancel-2.ensures.1 c.in_err-check_cancel-2.ensures;
+    }
+
+pub returns-in_err-number-2 : goal.returns-in_err-number-2
+returns-in_err-number-2 g c =
+    record {
+      conflict = IfOk-from_err c.from_residual-in_err-number-2.result _ c.from_residual-in_err-number-2.ensures.0;
+      settled = IfOk-from_err c.from_residual-in_err-number-2.result _ c.from_residual-in_err-number-2.ensures.0;
+      met = IfOk-from_err c.from_residual-in_err-number-2.result _ c.from_residual-in_err-number-2.ensures.0;
+      propagator = IfOk-from_err c.from_residual-in_err-number-2.result _ c.from_residual-in_err-number-2.ensures.0;
+      refused = refused-any _ _ c.in_err-number-2.ensures.refused;
+      justified = IfOk-from_err c.from_residual-in_err-number-2.result _ c.from_residual-in_err-number-2.ensures.0;
+      chosen = IfOk-from_err c.from_residual-in_err-number-2.result _ c.from_residual-in_err-number-2.ensures.0;
+      size = IfOk-from_err c.from_residual-in_err-number-2.result _ c.from_residual-in_err-number-2.ensures.0;
+      kept = IfOk-from_err c.from_residual-in_err-number-2.result _ c.from_residual-in_err-number-2.ensures.0;
+      assumed = IfOk-from_err c.from_residual-in_err-number-2.result _ c.from_residual-in_err-number-2.ensures.0;
+      queued = IfOk-from_err c.from_residual-in_err-number-2.result _ c.from_residual-in_err-number-2.ensures.0;
+      refusal = IfErr-of c.from_residual-in_err-number-2.result _ _ c.from_residual-in_err-number-2.ensures.1 refl;
+    }
