@@ -1,4 +1,7 @@
-use Rattle.std.proofs.Common.{ap, ◌∙◌}
+use Rattle.std.proofs.Common.{ℕ, ap, arith, length, refl, subst, sym, ◌<◌, ◌∙◌}
+use Rattle.std.proofs.lemmas.List.Elements.{All-contains}
+use Rattle.resolver_clause_store.specs.declared.StoredRequirement.{StoredRequirement}
+use Rattle.resolver_clause_store.specs.Formula.{AreBelow}
 use Rattle.resolver_clause_store.proofs.KeptLemmas.{keeps_all}
 use Rattle.resolvo.proofs.JustifiedLemmas.{chosen-extends}
 use Rattle.resolver_clause_store.proofs.QueueLemmas.{queued-longer}
@@ -9,7 +12,6 @@ use Rattle.resolver_clause_store.specs.WatchesView.{pairs_of}
 use Rattle.resolvo.proofs.WatchedLemmas.{owned-of, owned-same, refused-any}
 use Rattle.std.proofs.lemmas.Result.{IfOk-from_err}
 use Rattle.resolver_encoding.proofs.RefusalLemmas.{IfErr-of}
-use Rattle.std.proofs.Common.{refl}
 use Rattle.resolvo.proofs.clause_search.descend.Goals as goal
 
 pub returns-in-Some : goal.returns-in-Some
@@ -118,7 +120,7 @@ returns-in_err-number g c =
       settled = IfOk-from_err c.from_residual-in_err-number.result _ c.from_residual-in_err-number.ensures.0;
       met = IfOk-from_err c.from_residual-in_err-number.result _ c.from_residual-in_err-number.ensures.0;
       propagator = IfOk-from_err c.from_residual-in_err-number.result _ c.from_residual-in_err-number.ensures.0;
-      refused =     refused-any _ _ (owned-same _ _ _ (ap (λ (w : Watches). pairs_of w) c.apply_all_pending.ensures.watches) (owned-of _ _ _ c.requires.propagator));
+      refused = refused-any _ _ (owned-same _ _ _ (ap (λ (w : Watches). pairs_of w) c.apply_all_pending.ensures.watches) (owned-of _ _ _ c.requires.propagator));
       justified = IfOk-from_err c.from_residual-in_err-number.result _ c.from_residual-in_err-number.ensures.0;
       chosen = IfOk-from_err c.from_residual-in_err-number.result _ c.from_residual-in_err-number.ensures.0;
       size = IfOk-from_err c.from_residual-in_err-number.result _ c.from_residual-in_err-number.ensures.0;
@@ -195,3 +197,34 @@ returns-in_err-number-2 g c =
       queued = IfOk-from_err c.from_residual-in_err-number-2.result _ c.from_residual-in_err-number-2.ensures.0;
       refusal = IfErr-of c.from_residual-in_err-number-2.result _ _ c.from_residual-in_err-number-2.ensures.1 refl;
     }
+
+pub propagate-requires-clause-below : goal.propagate-requires-clause-below
+propagate-requires-clause-below g c =
+    let Below : ℕ → Type 0 = λ n. AreBelow n c.args.table.now in
+    subst Below (sym c.rounds.invariant.size) c.requires.below
+
+pub next-requires-clause-below : goal.next-requires-clause-below
+next-requires-clause-below g c =
+    let Below : ℕ → Type 0 = λ n. AreBelow n c.args.table.now in
+    subst Below (sym (c.propagate.ensures.size ∙ c.rounds.invariant.size)) c.requires.below
+
+pub next-requires-clause-settled : goal.next-requires-clause-settled
+next-requires-clause-settled g c = rw c.in_default-2.is at c.in_ok-number-2.ensures.settled
+
+pub take-requires-clause-below : goal.take-requires-clause-below
+take-requires-clause-below g c =
+    let Below : ℕ → Type 0 = λ n. AreBelow n c.args.table.now in
+    subst Below (sym (c.propagate.ensures.size ∙ c.rounds.invariant.size)) c.requires.below
+
+pub take-requires-clause-first : goal.take-requires-clause-first
+take-requires-clause-first g c = (rw c.in-Some-3.is at c.in_ok-choice.ensures.some).chosen.first
+
+pub rounds-smaller : goal.rounds-smaller
+rounds-smaller g c = omega (arith, c.in_ok-take-in-Some-3.ensures.fewer, c.propagate.ensures.open)
+
+pub take-requires-clause-inside : goal.take-requires-clause-inside
+take-requires-clause-inside g c =
+    let choice = rw c.in-Some-3.is at c.in_ok-choice.ensures.some in
+    let Inside : ℕ → Type 0 = λ n. n < length c.args.table.now in
+    subst Inside choice.chosen.number_is
+    (All-contains (λ (r : StoredRequirement). r.number < length c.args.table.now) c.args.requirements.now choice.requirement c.requires.inside choice.listed)
