@@ -2,6 +2,9 @@ use Rattle.std.proofs.Common.{ap, arith, length, sym, ◌∙◌}
 use Rattle.resolvo.proofs.LoadLemmas.{consistent-grown, first-grown, loaded-trail}
 use Rattle.resolvo.proofs.TurnLemmas.{turn-grown, turn-trans}
 use Rattle.resolvo.proofs.WatchedLemmas.{in_lists-same}
+use Rattle.std.proofs.lemmas.Result.{IfOk-from_err}
+use Rattle.resolver_encoding.proofs.RefusalLemmas.{IfErr-of}
+use Rattle.std.proofs.Common.{refl}
 use Rattle.resolvo.proofs.clause_search.ClauseSearch.load.Goals as goal
 
 pub load_clauses-requires-clause-consistent : goal.load_clauses-requires-clause-consistent
@@ -15,37 +18,102 @@ load_clauses-requires-clause-below c = rw c.in_ok-grow.ensures.ok.size c.require
 pub load_requirements-requires-clause-inside : goal.load_requirements-requires-clause-inside
 load_requirements-requires-clause-inside c = λ k d below. omega (arith, c.requires.inside k d below, c.in_ok-load_clauses.ensures.count)
 
-pub returns-clause-loaded : goal.returns-clause-loaded
-returns-clause-loaded c = λ given numbers loaded more is more_numbers are.
-    c.in_ok-load_requirements.ensures.loaded c.args.clauses.now numbers more_numbers
-    (c.in_ok-load_clauses.ensures.loaded given numbers more (loaded-trail c.args.self.now _ _ _ _ given numbers loaded) is) are
-
-pub returns-clause-variables : goal.returns-clause-variables
-returns-clause-variables c = c.in_ok-load_requirements.ensures.same.variables ∙ c.in_ok-load_clauses.ensures.same.variables ∙ c.in_ok-grow.ensures.ok.size
-
-pub returns-clause-kept : goal.returns-clause-kept
-returns-clause-kept c = λ base keeps.
-    c.in_ok-load_requirements.ensures.same.kept base
-    (c.in_ok-load_clauses.ensures.same.kept base (first-grown c.args.self.now.trail _ _ _ c.in_ok-grow.ensures.ok base keeps))
-
-pub returns-clause-turn : goal.returns-clause-turn
-returns-clause-turn c =
-    turn-trans _ _ _ (turn-trans _ _ _
-    (turn-grown c.args.self.now _ _ _ _ _ c.requires.consistent c.in_ok-grow.ensures.ok) c.in_ok-load_clauses.ensures.same.turn)
-    c.in_ok-load_requirements.ensures.same.turn
-
-pub returns-clause-set : goal.returns-clause-set
-returns-clause-set c = record {
-  was = λ v slot at. sym (c.in_ok-grow.ensures.ok.slots v) ∙
-      c.in_ok-load_clauses.ensures.same.set.was v slot (c.in_ok-load_requirements.ensures.same.set.was v slot at);
-}
-
-pub returns-clause-bookmarked : goal.returns-clause-bookmarked
-returns-clause-bookmarked c = λ all. c.in_ok-load_requirements.ensures.same.bookmarked
-    (c.in_ok-load_clauses.ensures.same.bookmarked (all ∙ sym (ap length c.in_ok-grow.ensures.ok.order)))
+pub returns : goal.returns
+returns c =
+    record {
+      consistent = c.in_ok-load_requirements.ensures.consistent;
+      loaded = λ given numbers loaded more is more_numbers are.
+          c.in_ok-load_requirements.ensures.loaded c.args.clauses.now numbers more_numbers
+          (c.in_ok-load_clauses.ensures.loaded given numbers more (loaded-trail c.args.self.now _ _ _ _ given numbers loaded) is) are;
+      variables = c.in_ok-load_requirements.ensures.same.variables ∙ c.in_ok-load_clauses.ensures.same.variables ∙ c.in_ok-grow.ensures.ok.size;
+      learnt = c.in_ok-load_requirements.ensures.same.learnt ∙ c.in_ok-load_clauses.ensures.same.learnt;
+      kept = λ base keeps.
+          c.in_ok-load_requirements.ensures.same.kept base
+          (c.in_ok-load_clauses.ensures.same.kept base (first-grown c.args.self.now.trail _ _ _ c.in_ok-grow.ensures.ok base keeps));
+      turn = turn-trans _ _ _ (turn-trans _ _ _
+          (turn-grown c.args.self.now _ _ _ _ _ c.requires.consistent c.in_ok-grow.ensures.ok) c.in_ok-load_clauses.ensures.same.turn)
+          c.in_ok-load_requirements.ensures.same.turn;
+      set = record {
+        was = λ v slot at. sym (c.in_ok-grow.ensures.ok.slots v) ∙
+            c.in_ok-load_clauses.ensures.same.set.was v slot (c.in_ok-load_requirements.ensures.same.set.was v slot at);
+      };
+      bookmarked = λ all. c.in_ok-load_requirements.ensures.same.bookmarked
+          (c.in_ok-load_clauses.ensures.same.bookmarked (all ∙ sym (ap length c.in_ok-grow.ensures.ok.order)));
+      memory = tt;
+    }
 
 pub invariant_of-self-in-Break-branch-2 : goal.invariant_of-self-in-Break-branch-2
 invariant_of-self-in-Break-branch-2 c = record { in_lists = in_lists-same _ _ _ _ c.requires.consistent.propagator c.grow-2.ensures.pairs }
 
 pub invariant_of-self-2 : goal.invariant_of-self-2
 invariant_of-self-2 c = record { in_lists = in_lists-same _ _ _ _ c.requires.consistent.propagator c.grow-2.ensures.pairs }
+
+pub returns-in_err-grow : goal.returns-in_err-grow
+returns-in_err-grow c =
+    record {
+      consistent = IfOk-from_err c.from_residual.result _ c.from_residual.ensures.0;
+      loaded = IfOk-from_err c.from_residual.result _ c.from_residual.ensures.0;
+      variables = IfOk-from_err c.from_residual.result _ c.from_residual.ensures.0;
+      learnt = IfOk-from_err c.from_residual.result _ c.from_residual.ensures.0;
+      kept = IfOk-from_err c.from_residual.result _ c.from_residual.ensures.0;
+      turn = IfOk-from_err c.from_residual.result _ c.from_residual.ensures.0;
+      set = IfOk-from_err c.from_residual.result _ c.from_residual.ensures.0;
+      bookmarked = IfOk-from_err c.from_residual.result _ c.from_residual.ensures.0;
+      memory = IfErr-of c.from_residual.result _ _ c.from_residual.ensures.1 refl;
+    }
+
+pub returns-in_err-grow-2 : goal.returns-in_err-grow-2
+returns-in_err-grow-2 c =
+    record {
+      consistent = IfOk-from_err c.from_residual-in_err-grow-2.result _ c.from_residual-in_err-grow-2.ensures.0;
+      loaded = IfOk-from_err c.from_residual-in_err-grow-2.result _ c.from_residual-in_err-grow-2.ensures.0;
+      variables = IfOk-from_err c.from_residual-in_err-grow-2.result _ c.from_residual-in_err-grow-2.ensures.0;
+      learnt = IfOk-from_err c.from_residual-in_err-grow-2.result _ c.from_residual-in_err-grow-2.ensures.0;
+      kept = IfOk-from_err c.from_residual-in_err-grow-2.result _ c.from_residual-in_err-grow-2.ensures.0;
+      turn = IfOk-from_err c.from_residual-in_err-grow-2.result _ c.from_residual-in_err-grow-2.ensures.0;
+      set = IfOk-from_err c.from_residual-in_err-grow-2.result _ c.from_residual-in_err-grow-2.ensures.0;
+      bookmarked = IfOk-from_err c.from_residual-in_err-grow-2.result _ c.from_residual-in_err-grow-2.ensures.0;
+      memory = IfErr-of c.from_residual-in_err-grow-2.result _ _ c.from_residual-in_err-grow-2.ensures.1 refl;
+    }
+
+pub returns-in_err-learn_owners : goal.returns-in_err-learn_owners
+returns-in_err-learn_owners c =
+    record {
+      consistent = IfOk-from_err c.from_residual-in_err-learn_owners.result _ c.from_residual-in_err-learn_owners.ensures.0;
+      loaded = IfOk-from_err c.from_residual-in_err-learn_owners.result _ c.from_residual-in_err-learn_owners.ensures.0;
+      variables = IfOk-from_err c.from_residual-in_err-learn_owners.result _ c.from_residual-in_err-learn_owners.ensures.0;
+      learnt = IfOk-from_err c.from_residual-in_err-learn_owners.result _ c.from_residual-in_err-learn_owners.ensures.0;
+      kept = IfOk-from_err c.from_residual-in_err-learn_owners.result _ c.from_residual-in_err-learn_owners.ensures.0;
+      turn = IfOk-from_err c.from_residual-in_err-learn_owners.result _ c.from_residual-in_err-learn_owners.ensures.0;
+      set = IfOk-from_err c.from_residual-in_err-learn_owners.result _ c.from_residual-in_err-learn_owners.ensures.0;
+      bookmarked = IfOk-from_err c.from_residual-in_err-learn_owners.result _ c.from_residual-in_err-learn_owners.ensures.0;
+      memory = IfErr-of c.from_residual-in_err-learn_owners.result _ _ c.from_residual-in_err-learn_owners.ensures.1 refl;
+    }
+
+pub returns-in_err-load_clauses : goal.returns-in_err-load_clauses
+returns-in_err-load_clauses c =
+    record {
+      consistent = IfOk-from_err c.from_residual-in_err-load_clauses.result _ c.from_residual-in_err-load_clauses.ensures.0;
+      loaded = IfOk-from_err c.from_residual-in_err-load_clauses.result _ c.from_residual-in_err-load_clauses.ensures.0;
+      variables = IfOk-from_err c.from_residual-in_err-load_clauses.result _ c.from_residual-in_err-load_clauses.ensures.0;
+      learnt = IfOk-from_err c.from_residual-in_err-load_clauses.result _ c.from_residual-in_err-load_clauses.ensures.0;
+      kept = IfOk-from_err c.from_residual-in_err-load_clauses.result _ c.from_residual-in_err-load_clauses.ensures.0;
+      turn = IfOk-from_err c.from_residual-in_err-load_clauses.result _ c.from_residual-in_err-load_clauses.ensures.0;
+      set = IfOk-from_err c.from_residual-in_err-load_clauses.result _ c.from_residual-in_err-load_clauses.ensures.0;
+      bookmarked = IfOk-from_err c.from_residual-in_err-load_clauses.result _ c.from_residual-in_err-load_clauses.ensures.0;
+      memory = IfErr-of c.from_residual-in_err-load_clauses.result _ _ c.from_residual-in_err-load_clauses.ensures.1 refl;
+    }
+
+pub returns-in_err-load_requirements : goal.returns-in_err-load_requirements
+returns-in_err-load_requirements c =
+    record {
+      consistent = IfOk-from_err c.from_residual-in_err-load_requirements.result _ c.from_residual-in_err-load_requirements.ensures.0;
+      loaded = IfOk-from_err c.from_residual-in_err-load_requirements.result _ c.from_residual-in_err-load_requirements.ensures.0;
+      variables = IfOk-from_err c.from_residual-in_err-load_requirements.result _ c.from_residual-in_err-load_requirements.ensures.0;
+      learnt = IfOk-from_err c.from_residual-in_err-load_requirements.result _ c.from_residual-in_err-load_requirements.ensures.0;
+      kept = IfOk-from_err c.from_residual-in_err-load_requirements.result _ c.from_residual-in_err-load_requirements.ensures.0;
+      turn = IfOk-from_err c.from_residual-in_err-load_requirements.result _ c.from_residual-in_err-load_requirements.ensures.0;
+      set = IfOk-from_err c.from_residual-in_err-load_requirements.result _ c.from_residual-in_err-load_requirements.ensures.0;
+      bookmarked = IfOk-from_err c.from_residual-in_err-load_requirements.result _ c.from_residual-in_err-load_requirements.ensures.0;
+      memory = IfErr-of c.from_residual-in_err-load_requirements.result _ _ c.from_residual-in_err-load_requirements.ensures.1 refl;
+    }

@@ -2,27 +2,38 @@ use Rattle.resolvo.proofs.LoadLemmas.{finished_for, first-after, loaded-trail, p
 use Rattle.resolvo.proofs.TurnLemmas.{consistent-descended, turn-trans}
 use Rattle.resolvo.proofs.WatchedLemmas.{in_lists, owned-either}
 use Rattle.std.proofs.Common.{◌∙◌}
+use Rattle.resolver_encoding.proofs.RefusalLemmas.{shortage_at_limit}
+use Rattle.std.proofs.lemmas.Result.{IfOk-from_err}
+use Rattle.resolver_encoding.proofs.RefusalLemmas.{IfErr-of}
+use Rattle.resolver_encoding.proofs.RefusalLemmas.{IfErr-stop}
 use Rattle.resolvo.proofs.clause_search.ClauseSearch.run.Goals as goal
 
-pub returns-in-None-clause-outcome : goal.returns-in-None-clause-outcome
-returns-in-None-clause-outcome g c = λ given numbers before requirements are.
-    let found = c.conflicts.self in
-    let it = c.conflicts.invariant.0 in
-    let loaded = c.conflicts.invariant.1.loaded given numbers before in
-    let wanted = c.as_slice.ensures.value in
-    let settled = rw c.in-None.is at c.in_ok-descend.ensures.settled in
-    let met = rw (c.in-None.is, wanted) at c.in_ok-descend.ensures.met in
-    let justified = c.in_ok-descend.ensures.justified in
-    let chosen = rw wanted at c.in_ok-descend.ensures.chosen in
-    finished_for given found.table found.sources found.places found.requirements.items requirements numbers c.descend.new.trail are it.derived
-    justified chosen loaded.clauses loaded.requirements loaded.inside settled met
-
-pub returns-in-None-clause-consistent : goal.returns-in-None-clause-consistent
-returns-in-None-clause-consistent g c =
-    let wanted = c.as_slice.ensures.value in
-    consistent-descended c.conflicts.self _ _ _ _ c.conflicts.invariant.0 c.in_ok-descend.ensures.size c.in_ok-descend.ensures.justified
-    (rw wanted at c.in_ok-descend.ensures.chosen) c.in_ok-descend.ensures.kept c.in_ok-descend.ensures.propagator
-    (rw wanted at c.in_ok-descend.ensures.queued)
+pub returns-in-None : goal.returns-in-None
+returns-in-None g c =
+    record {
+      outcome = λ given numbers before requirements are.
+          let found = c.conflicts.self in
+          let it = c.conflicts.invariant.0 in
+          let loaded = c.conflicts.invariant.1.loaded given numbers before in
+          let wanted = c.as_slice.ensures.value in
+          let settled = rw c.in-None.is at c.in_ok-descend.ensures.settled in
+          let met = rw (c.in-None.is, wanted) at c.in_ok-descend.ensures.met in
+          let justified = c.in_ok-descend.ensures.justified in
+          let chosen = rw wanted at c.in_ok-descend.ensures.chosen in
+          finished_for given found.table found.sources found.places found.requirements.items requirements numbers c.descend.new.trail are it.derived
+          justified chosen loaded.clauses loaded.requirements loaded.inside settled met;
+      consistent = let wanted = c.as_slice.ensures.value in
+          consistent-descended c.conflicts.self _ _ _ _ c.conflicts.invariant.0 c.in_ok-descend.ensures.size c.in_ok-descend.ensures.justified
+          (rw wanted at c.in_ok-descend.ensures.chosen) c.in_ok-descend.ensures.kept c.in_ok-descend.ensures.propagator
+          (rw wanted at c.in_ok-descend.ensures.queued);
+      loaded = λ given numbers before. loaded-trail c.conflicts.self _ _ _ _ given numbers (c.conflicts.invariant.1.loaded given numbers before);
+      variables = c.in_ok-descend.ensures.size ∙ c.conflicts.invariant.1.variables;
+      kept = λ base keeps.
+          first-after c.conflicts.self.trail c.descend.new.trail c.conflicts.self.kept c.in_ok-descend.ensures.kept base (c.conflicts.invariant.1.kept base keeps);
+      turn = (problem-descended _ c.conflicts.self c.descend.new.trail c.descend.new.propagator c.descend.new.queue _ c.conflicts.invariant.0 c.conflicts.invariant.1
+          c.in_ok-descend.ensures.size c.in_ok-descend.ensures.kept c.in_ok-descend.ensures.assumed).turn;
+      refusal = tt;
+    }
 
 pub learn-requires-clause-consistent : goal.learn-requires-clause-consistent
 learn-requires-clause-consistent g c =
@@ -31,36 +42,26 @@ learn-requires-clause-consistent g c =
     (rw wanted at c.in_ok-descend.ensures.chosen) c.in_ok-descend.ensures.kept c.in_ok-descend.ensures.propagator
     (rw wanted at c.in_ok-descend.ensures.queued)
 
-pub returns-in-None-clause-turn : goal.returns-in-None-clause-turn
-returns-in-None-clause-turn g c =
-    (problem-descended _ c.conflicts.self c.descend.new.trail c.descend.new.propagator c.descend.new.queue _ c.conflicts.invariant.0 c.conflicts.invariant.1
-    c.in_ok-descend.ensures.size c.in_ok-descend.ensures.kept c.in_ok-descend.ensures.assumed).turn
-
-pub returns-in-Some-2-clause-turn : goal.returns-in-Some-2-clause-turn
-returns-in-Some-2-clause-turn g c =
-    let step = problem-descended _ c.conflicts.self c.descend.new.trail c.descend.new.propagator c.descend.new.queue _ c.conflicts.invariant.0
-    c.conflicts.invariant.1 c.in_ok-descend.ensures.size c.in_ok-descend.ensures.kept c.in_ok-descend.ensures.assumed in
-    turn-trans _ _ _ step.turn c.in_ok-outcome-in-Some.ensures.same.turn
-
-pub returns-in-None-clause-loaded : goal.returns-in-None-clause-loaded
-returns-in-None-clause-loaded g c =
-    λ given numbers before. loaded-trail c.conflicts.self _ _ _ _ given numbers (c.conflicts.invariant.1.loaded given numbers before)
-
-pub returns-in-Some-2-clause-outcome : goal.returns-in-Some-2-clause-outcome
-returns-in-Some-2-clause-outcome g c = λ given numbers before.
-    let core = rw c.in-Some-2.is at c.in_ok-outcome-in-Some.ensures.outcome in
-    core given numbers (loaded-trail c.conflicts.self _ _ _ _ given numbers (c.conflicts.invariant.1.loaded given numbers before))
-
-pub returns-in-Some-2-clause-loaded : goal.returns-in-Some-2-clause-loaded
-returns-in-Some-2-clause-loaded g c = λ given numbers before.
-    c.in_ok-outcome-in-Some.ensures.same.loaded given numbers
-    (loaded-trail c.conflicts.self _ _ _ _ given numbers (c.conflicts.invariant.1.loaded given numbers before))
-
-pub returns-in-Some-2-clause-kept : goal.returns-in-Some-2-clause-kept
-returns-in-Some-2-clause-kept g c = λ base keeps.
-    c.in_ok-outcome-in-Some.ensures.same.kept base
-    (first-after c.conflicts.self.trail c.descend.new.trail c.conflicts.self.kept c.in_ok-descend.ensures.kept base
-    (c.conflicts.invariant.1.kept base keeps))
+pub returns-in-Some-2 : goal.returns-in-Some-2
+returns-in-Some-2 g c =
+    record {
+      outcome = λ given numbers before.
+          let core = rw c.in-Some-2.is at c.in_ok-outcome-in-Some.ensures.outcome in
+          core given numbers (loaded-trail c.conflicts.self _ _ _ _ given numbers (c.conflicts.invariant.1.loaded given numbers before));
+      consistent = c.in_ok-outcome-in-Some.ensures.consistent;
+      loaded = λ given numbers before.
+          c.in_ok-outcome-in-Some.ensures.same.loaded given numbers
+          (loaded-trail c.conflicts.self _ _ _ _ given numbers (c.conflicts.invariant.1.loaded given numbers before));
+      variables = c.in_ok-outcome-in-Some.ensures.same.variables ∙ (c.in_ok-descend.ensures.size ∙ c.conflicts.invariant.1.variables);
+      kept = λ base keeps.
+          c.in_ok-outcome-in-Some.ensures.same.kept base
+          (first-after c.conflicts.self.trail c.descend.new.trail c.conflicts.self.kept c.in_ok-descend.ensures.kept base
+          (c.conflicts.invariant.1.kept base keeps));
+      turn = let step = problem-descended _ c.conflicts.self c.descend.new.trail c.descend.new.propagator c.descend.new.queue _ c.conflicts.invariant.0
+          c.conflicts.invariant.1 c.in_ok-descend.ensures.size c.in_ok-descend.ensures.kept c.in_ok-descend.ensures.assumed in
+          turn-trans _ _ _ step.turn c.in_ok-outcome-in-Some.ensures.same.turn;
+      refusal = tt;
+    }
 
 pub conflicts-preserved : goal.conflicts-preserved
 conflicts-preserved g c =
@@ -75,26 +76,6 @@ conflicts-preserved g c =
 pub invariant_of-self : goal.invariant_of-self
 invariant_of-self g c =
     record { in_lists = ∣ in_lists _ _ (owned-either c.descend.result _ _ _ c.descend.ensures.propagator c.descend.ensures.refused) ∣₁ }
-
-pub returns-in-None-clause-variables : goal.returns-in-None-clause-variables
-returns-in-None-clause-variables g c = c.in_ok-descend.ensures.size ∙ c.conflicts.invariant.1.variables
-
-pub returns-in-None-clause-kept : goal.returns-in-None-clause-kept
-returns-in-None-clause-kept g c = λ base keeps.
-    first-after c.conflicts.self.trail c.descend.new.trail c.conflicts.self.kept c.in_ok-descend.ensures.kept base (c.conflicts.invariant.1.kept base keeps)
-
-pub returns-in-None-clause-refusal : goal.returns-in-None-clause-refusal
-returns-in-None-clause-refusal g c = tt
-
-pub returns-in-Some-2-clause-consistent : goal.returns-in-Some-2-clause-consistent
-returns-in-Some-2-clause-consistent g c = c.in_ok-outcome-in-Some.ensures.consistent
-
-pub returns-in-Some-2-clause-variables : goal.returns-in-Some-2-clause-variables
-returns-in-Some-2-clause-variables g c =
-    c.in_ok-outcome-in-Some.ensures.same.variables ∙ (c.in_ok-descend.ensures.size ∙ c.conflicts.invariant.1.variables)
-
-pub returns-in-Some-2-clause-refusal : goal.returns-in-Some-2-clause-refusal
-returns-in-Some-2-clause-refusal g c = tt
 
 pub descend-requires-clause-below : goal.descend-requires-clause-below
 descend-requires-clause-below g c = c.conflicts.invariant.0.below
@@ -116,3 +97,27 @@ descend-requires-clause-queued g c = rw c.as_slice.ensures.value c.conflicts.inv
 
 pub learn-requires-clause-conflict : goal.learn-requires-clause-conflict
 learn-requires-clause-conflict g c = rw c.in-Some.is at c.in_ok-descend.ensures.conflict
+
+pub returns-in_err-descend : goal.returns-in_err-descend
+returns-in_err-descend g c =
+    record {
+      outcome = IfOk-from_err c.from_residual.result _ c.from_residual.ensures.0;
+      consistent = IfOk-from_err c.from_residual.result _ c.from_residual.ensures.0;
+      loaded = IfOk-from_err c.from_residual.result _ c.from_residual.ensures.0;
+      variables = IfOk-from_err c.from_residual.result _ c.from_residual.ensures.0;
+      kept = IfOk-from_err c.from_residual.result _ c.from_residual.ensures.0;
+      turn = IfOk-from_err c.from_residual.result _ c.from_residual.ensures.0;
+      refusal = IfErr-stop c.from_residual.result (g.D.DependencyProvider.may_cancel c.args.provider.now) _ _ c.from_residual.ensures.1 c.in_err-descend.ensures.refusal;
+    }
+
+pub returns-in_err-outcome-in-Some : goal.returns-in_err-outcome-in-Some
+returns-in_err-outcome-in-Some g c =
+    record {
+      outcome = IfOk-from_err c.from_residual-in_err-outcome-in-Some.result _ c.from_residual-in_err-outcome-in-Some.ensures.0;
+      consistent = IfOk-from_err c.from_residual-in_err-outcome-in-Some.result _ c.from_residual-in_err-outcome-in-Some.ensures.0;
+      loaded = IfOk-from_err c.from_residual-in_err-outcome-in-Some.result _ c.from_residual-in_err-outcome-in-Some.ensures.0;
+      variables = IfOk-from_err c.from_residual-in_err-outcome-in-Some.result _ c.from_residual-in_err-outcome-in-Some.ensures.0;
+      kept = IfOk-from_err c.from_residual-in_err-outcome-in-Some.result _ c.from_residual-in_err-outcome-in-Some.ensures.0;
+      turn = IfOk-from_err c.from_residual-in_err-outcome-in-Some.result _ c.from_residual-in_err-outcome-in-Some.ensures.0;
+      refusal = IfErr-of c.from_residual-in_err-outcome-in-Some.result _ _ c.from_residual-in_err-outcome-in-Some.ensures.1 (shortage_at_limit _ _ c.in_err-outcome-in-Some.ensures.ids);
+    }

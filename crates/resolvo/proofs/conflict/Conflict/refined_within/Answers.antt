@@ -1,20 +1,47 @@
 use Rattle.resolvo.proofs.RefinedLemmas.{refined_explains, refined_part, refined_refuted}
 use Rattle.resolvo.specs.Conflicts.{rules_in}
+use Rattle.std.proofs.Common.{rules}
+use Rattle.std.proofs.lemmas.Result.{IfOk-from_err}
+use Rattle.resolver_encoding.proofs.RefusalLemmas.{IfErr-of}
 use Rattle.resolvo.proofs.conflict.Conflict.refined_within.Goals as goal
 
-pub returns-clause-part : goal.returns-clause-part
-returns-clause-part g c =
-    refined_part (rules_in c.args.self.now) c.in_ok-marks.marks.items c.in_ok-copies.copies.items c.in_ok-rules.rules.items
-    (rw (c.deref.ensures.value, c.rules-2.ensures) at c.in_ok-copies.ensures.same) c.in_ok-rules.ensures.left
+pub returns : goal.returns
+returns g c =
+    record {
+      part = refined_part (rules_in c.args.self.now) c.in_ok-marks.marks.items c.in_ok-copies.copies.items c.in_ok-rules.rules.items
+          (rw (c.deref.ensures.value, c.rules-2.ensures) at c.in_ok-copies.ensures.same) c.in_ok-rules.ensures.left;
+      refuted = refined_refuted (rules_in c.args.self.now) c.in_ok-marks.marks.items c.in_ok-copies.copies.items c.in_ok-rules.rules.items
+          (rw (c.deref.ensures.value, c.rules-2.ensures) at c.in_ok-copies.ensures.same) c.in_ok-rules.ensures.left
+          (rw c.rules.ensures at c.in_ok-marks.ensures.refuted) c.in_ok-rules.ensures.refuted;
+      explains = refined_explains (rules_in c.args.self.now) c.in_ok-marks.marks.items c.in_ok-copies.copies.items c.in_ok-rules.rules.items
+          (rw (c.deref.ensures.value, c.rules-2.ensures) at c.in_ok-copies.ensures.same) c.in_ok-rules.ensures.left
+          (rw c.rules.ensures at c.in_ok-marks.ensures.refuted) c.in_ok-rules.ensures.refuted c.in_ok-rules.ensures.again;
+      memory = tt;
+    }
 
-pub returns-clause-refuted : goal.returns-clause-refuted
-returns-clause-refuted g c =
-    refined_refuted (rules_in c.args.self.now) c.in_ok-marks.marks.items c.in_ok-copies.copies.items c.in_ok-rules.rules.items
-    (rw (c.deref.ensures.value, c.rules-2.ensures) at c.in_ok-copies.ensures.same) c.in_ok-rules.ensures.left
-    (rw c.rules.ensures at c.in_ok-marks.ensures.refuted) c.in_ok-rules.ensures.refuted
+pub returns-in_err-marks : goal.returns-in_err-marks
+returns-in_err-marks g c =
+    record {
+      part = IfOk-from_err c.from_residual.result _ c.from_residual.ensures.0;
+      refuted = IfOk-from_err c.from_residual.result _ c.from_residual.ensures.0;
+      explains = IfOk-from_err c.from_residual.result _ c.from_residual.ensures.0;
+      memory = IfErr-of c.from_residual.result _ _ c.from_residual.ensures.1 c.in_err-marks.ensures.memory;
+    }
 
-pub returns-clause-explains : goal.returns-clause-explains
-returns-clause-explains g c =
-    refined_explains (rules_in c.args.self.now) c.in_ok-marks.marks.items c.in_ok-copies.copies.items c.in_ok-rules.rules.items
-    (rw (c.deref.ensures.value, c.rules-2.ensures) at c.in_ok-copies.ensures.same) c.in_ok-rules.ensures.left
-    (rw c.rules.ensures at c.in_ok-marks.ensures.refuted) c.in_ok-rules.ensures.refuted c.in_ok-rules.ensures.again
+pub returns-in_err-copies : goal.returns-in_err-copies
+returns-in_err-copies g c =
+    record {
+      part = IfOk-from_err c.from_residual-in_err-copies.result _ c.from_residual-in_err-copies.ensures.0;
+      refuted = IfOk-from_err c.from_residual-in_err-copies.result _ c.from_residual-in_err-copies.ensures.0;
+      explains = IfOk-from_err c.from_residual-in_err-copies.result _ c.from_residual-in_err-copies.ensures.0;
+      memory = IfErr-of c.from_residual-in_err-copies.result _ _ c.from_residual-in_err-copies.ensures.1 c.in_err-copies.ensures.memory;
+    }
+
+pub returns-in_err-rules : goal.returns-in_err-rules
+returns-in_err-rules g c =
+    record {
+      part = IfOk-from_err c.from_residual-in_err-rules.result _ c.from_residual-in_err-rules.ensures.0;
+      refuted = IfOk-from_err c.from_residual-in_err-rules.result _ c.from_residual-in_err-rules.ensures.0;
+      explains = IfOk-from_err c.from_residual-in_err-rules.result _ c.from_residual-in_err-rules.ensures.0;
+      memory = IfErr-of c.from_residual-in_err-rules.result _ _ c.from_residual-in_err-rules.ensures.1 c.in_err-rules.ensures.memory;
+    }

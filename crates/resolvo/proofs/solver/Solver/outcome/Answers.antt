@@ -25,118 +25,108 @@ core_within u rounds found core is done =
     let some : IsSomeDone u rounds (Contradiction core) = subst For is done in
     some.done.1.within
 
-pub returns-in-Ok-Contradiction-clause-refusal : goal.returns-in-Ok-Contradiction-clause-refusal
-returns-in-Ok-Contradiction-clause-refusal g c = λ root soft done.
-    let u = g.D.Interner.universe c.args.self.now.provider in
-    let rounds = c.args.rounds.now in
-    let it : IsDone u root soft rounds c.in-Ok-Contradiction.field-0 =
-    IfOk-at_ok (IsDone u root soft rounds) c.in-Ok-Contradiction.is done in
-    let both : IsReadSoFar u root (chosen_of rounds) (notes_of rounds) × IsCore (notes_of rounds).table c.in-Ok-Contradiction.core.items =
-    rw c.in-Ok-Contradiction.field-0-is at it in
-    let CoreOf : List ℕ → Type 0 = λ ns. IsCore (notes_of rounds).table ns in
-    refusal_weaker u (g.D.DependencyProvider.may_cancel c.args.self.now.provider) root ⊥ (IsStuck rounds) (λ none. absurd none) c.refuse.result
-    (c.refuse.ensures.refusal root (notes_of rounds) (sym c.kinds.ensures) both.0.half.encoding (subst CoreOf (sym c.deref.ensures.value) both.1))
+pub returns-in-Ok-Contradiction : goal.returns-in-Ok-Contradiction
+returns-in-Ok-Contradiction g c =
+    record {
+      sound = c.refuse.ensures.sound;
+      provider = c.refuse.ensures.provider;
+      limits = c.refuse.ensures.limits;
+      activity = c.refuse.ensures.activity;
+      counts = c.refuse.ensures.counts;
+      none = c.refuse.ensures.exempt ∙ c.requires.none;
+      found = tt;
+      answer = tt;
+      refusal = λ root soft done.
+          let u = g.D.Interner.universe c.args.self.now.provider in
+          let rounds = c.args.rounds.now in
+          let it : IsDone u root soft rounds c.in-Ok-Contradiction.field-0 =
+          IfOk-at_ok (IsDone u root soft rounds) c.in-Ok-Contradiction.is done in
+          let both : IsReadSoFar u root (chosen_of rounds) (notes_of rounds) × IsCore (notes_of rounds).table c.in-Ok-Contradiction.core.items =
+          rw c.in-Ok-Contradiction.field-0-is at it in
+          let CoreOf : List ℕ → Type 0 = λ ns. IsCore (notes_of rounds).table ns in
+          refusal_weaker u (g.D.DependencyProvider.may_cancel c.args.self.now.provider) root ⊥ (IsStuck rounds) (λ none. absurd none) c.refuse.result
+          (c.refuse.ensures.refusal root (notes_of rounds) (sym c.kinds.ensures) both.0.half.encoding (subst CoreOf (sym c.deref.ensures.value) both.1));
+    }
 
-pub returns-in-Ok-Answer-clause-found : goal.returns-in-Ok-Answer-clause-found
-returns-in-Ok-Answer-clause-found g c = OnOk-of (c.args.found ≡ Ok Answer) (c.in-Ok-Answer.is ∙ ap Ok c.in-Ok-Answer.field-0-is) c.accept.result
+pub returns-in-Ok-Answer : goal.returns-in-Ok-Answer
+returns-in-Ok-Answer g c =
+    record {
+      sound = c.accept.ensures.sound;
+      provider = c.accept.ensures.provider;
+      limits = c.accept.ensures.limits;
+      activity = c.accept.ensures.activity;
+      counts = c.accept.ensures.counts;
+      none = c.accept.ensures.none;
+      found = OnOk-of (c.args.found ≡ Ok Answer) (c.in-Ok-Answer.is ∙ ap Ok c.in-Ok-Answer.field-0-is) c.accept.result;
+      answer = let u = g.D.Interner.universe c.args.self.now.provider in
+          let rounds = c.args.rounds.now in
+          let exempt = exempt_in c.accept.new.self in
+          IfOk-both (λ chosen. chosen.items ≡ chosen_of rounds)
+          (λ chosen. (root : Demands) (soft : List (SoftRequirement g.row.D-SolvableId.Denot)) → IfOk c.args.found (IsDone u root soft rounds) →
+          IsSoftAnswer u root soft chosen.items exempt)
+          (exempt ≡ (notes_of rounds).exempt)
+          (λ chosen are free root soft done. let it : IsDone u root soft rounds c.in-Ok-Answer.field-0 =
+          IfOk-at_ok (IsDone u root soft rounds) c.in-Ok-Answer.is done in
+          let between : IsBetween u root soft rounds = rw c.in-Ok-Answer.field-0-is at it in
+          soft_answer {E = g.row.D.Denot} u rounds (Ok chosen) exempt are free root soft between)
+          c.accept.result c.accept.ensures.chosen c.accept.ensures.exempt;
+      refusal = let u = g.D.Interner.universe c.args.self.now.provider in
+          let rounds = c.args.rounds.now in
+          IfErr-weaker c.accept.result (λ e. e ≡ Exhausted Memory)
+          (λ e. (root : Demands) (soft : List (SoftRequirement g.row.D-SolvableId.Denot)) → IfOk c.args.found (IsDone u root soft rounds) →
+          IsRefusal u (g.D.DependencyProvider.may_cancel c.args.self.now.provider) root (IsStuck rounds) e)
+          (λ e is root soft done. rw is tt) c.accept.ensures.memory;
+    }
 
-pub returns-in-Err-Cancelled-clause-counts : goal.returns-in-Err-Cancelled-clause-counts
-returns-in-Err-Cancelled-clause-counts g c = record { variables = refl; clauses = refl; learnt = refl; deferred = refl }
+pub returns-in-Err-Cancelled : goal.returns-in-Err-Cancelled
+returns-in-Err-Cancelled g c =
+    record {
+      sound = c.requires.sound;
+      provider = refl;
+      limits = record { variables = refl; clauses = refl; learnt = refl };
+      activity = refl;
+      counts = record { variables = refl; clauses = refl; learnt = refl; deferred = refl };
+      none = c.requires.none;
+      found = tt;
+      answer = tt;
+      refusal = λ root soft done. rw c.in-Err-Cancelled.field-0-is at (rw c.in-Err-Cancelled.is at c.requires.stop);
+    }
 
-pub returns-in-Err-Cancelled-clause-limits : goal.returns-in-Err-Cancelled-clause-limits
-returns-in-Err-Cancelled-clause-limits g c = record { variables = refl; clauses = refl; learnt = refl }
+pub returns-in-Err-Exhausted : goal.returns-in-Err-Exhausted
+returns-in-Err-Exhausted g c =
+    record {
+      sound = c.requires.sound;
+      provider = refl;
+      limits = record { variables = refl; clauses = refl; learnt = refl };
+      activity = refl;
+      counts = record { variables = refl; clauses = refl; learnt = refl; deferred = refl };
+      none = c.requires.none;
+      found = tt;
+      answer = tt;
+      refusal = λ root soft done. rw c.in-Err-Exhausted.field-0-is at (rw c.in-Err-Exhausted.is at c.requires.stop);
+    }
 
-pub returns-in-Err-Cancelled-clause-sound : goal.returns-in-Err-Cancelled-clause-sound
-returns-in-Err-Cancelled-clause-sound g c = c.requires.sound
-
-pub returns-in-Err-Cancelled-clause-none : goal.returns-in-Err-Cancelled-clause-none
-returns-in-Err-Cancelled-clause-none g c = c.requires.none
-
-pub returns-in-Err-Cancelled-clause-refusal : goal.returns-in-Err-Cancelled-clause-refusal
-returns-in-Err-Cancelled-clause-refusal g c = λ root soft done. rw c.in-Err-Cancelled.field-0-is at (rw c.in-Err-Cancelled.is at c.requires.stop)
-
-pub returns-in-Err-Exhausted-clause-counts : goal.returns-in-Err-Exhausted-clause-counts
-returns-in-Err-Exhausted-clause-counts g c = record { variables = refl; clauses = refl; learnt = refl; deferred = refl }
-
-pub returns-in-Err-Exhausted-clause-limits : goal.returns-in-Err-Exhausted-clause-limits
-returns-in-Err-Exhausted-clause-limits g c = record { variables = refl; clauses = refl; learnt = refl }
-
-pub returns-in-Err-Exhausted-clause-sound : goal.returns-in-Err-Exhausted-clause-sound
-returns-in-Err-Exhausted-clause-sound g c = c.requires.sound
-
-pub returns-in-Err-Exhausted-clause-none : goal.returns-in-Err-Exhausted-clause-none
-returns-in-Err-Exhausted-clause-none g c = c.requires.none
-
-pub returns-in-Err-Exhausted-clause-refusal : goal.returns-in-Err-Exhausted-clause-refusal
-returns-in-Err-Exhausted-clause-refusal g c = λ root soft done. rw c.in-Err-Exhausted.field-0-is at (rw c.in-Err-Exhausted.is at c.requires.stop)
-
-pub returns-in-Ok-Answer-clause-counts : goal.returns-in-Ok-Answer-clause-counts
-returns-in-Ok-Answer-clause-counts g c = c.accept.ensures.counts
-
-pub returns-in-Ok-Answer-clause-limits : goal.returns-in-Ok-Answer-clause-limits
-returns-in-Ok-Answer-clause-limits g c = c.accept.ensures.limits
-
-pub returns-in-Ok-Answer-clause-sound : goal.returns-in-Ok-Answer-clause-sound
-returns-in-Ok-Answer-clause-sound g c = c.accept.ensures.sound
-
-pub returns-in-Ok-Contradiction-clause-counts : goal.returns-in-Ok-Contradiction-clause-counts
-returns-in-Ok-Contradiction-clause-counts g c = c.refuse.ensures.counts
-
-pub returns-in-Ok-Contradiction-clause-limits : goal.returns-in-Ok-Contradiction-clause-limits
-returns-in-Ok-Contradiction-clause-limits g c = c.refuse.ensures.limits
-
-pub returns-in-Ok-Contradiction-clause-sound : goal.returns-in-Ok-Contradiction-clause-sound
-returns-in-Ok-Contradiction-clause-sound g c = c.refuse.ensures.sound
-
-pub returns-in-Ok-Contradiction-clause-none : goal.returns-in-Ok-Contradiction-clause-none
-returns-in-Ok-Contradiction-clause-none g c = c.refuse.ensures.exempt ∙ c.requires.none
-
-pub returns-in-Ok-Refused-clause-counts : goal.returns-in-Ok-Refused-clause-counts
-returns-in-Ok-Refused-clause-counts g c = c.refuse-in-Ok-Refused.ensures.counts
-
-pub returns-in-Ok-Refused-clause-limits : goal.returns-in-Ok-Refused-clause-limits
-returns-in-Ok-Refused-clause-limits g c = c.refuse-in-Ok-Refused.ensures.limits
-
-pub returns-in-Ok-Refused-clause-sound : goal.returns-in-Ok-Refused-clause-sound
-returns-in-Ok-Refused-clause-sound g c = c.refuse-in-Ok-Refused.ensures.sound
-
-pub returns-in-Ok-Refused-clause-none : goal.returns-in-Ok-Refused-clause-none
-returns-in-Ok-Refused-clause-none g c = c.refuse-in-Ok-Refused.ensures.exempt ∙ c.requires.none
-
-pub returns-in-Ok-Refused-clause-refusal : goal.returns-in-Ok-Refused-clause-refusal
-returns-in-Ok-Refused-clause-refusal g c = λ root soft done.
-    let u = g.D.Interner.universe c.args.self.now.provider in
-    let rounds = c.args.rounds.now in
-    let it : IsDone u root soft rounds c.in-Ok-Refused.field-0 =
-    IfOk-at_ok (IsDone u root soft rounds) c.in-Ok-Refused.is done in
-    absurd (rw c.in-Ok-Refused.field-0-is at it)
+pub returns-in-Ok-Refused : goal.returns-in-Ok-Refused
+returns-in-Ok-Refused g c =
+    record {
+      sound = c.refuse-in-Ok-Refused.ensures.sound;
+      provider = c.refuse-in-Ok-Refused.ensures.provider;
+      limits = c.refuse-in-Ok-Refused.ensures.limits;
+      activity = c.refuse-in-Ok-Refused.ensures.activity;
+      counts = c.refuse-in-Ok-Refused.ensures.counts;
+      none = c.refuse-in-Ok-Refused.ensures.exempt ∙ c.requires.none;
+      found = tt;
+      answer = tt;
+      refusal = λ root soft done.
+          let u = g.D.Interner.universe c.args.self.now.provider in
+          let rounds = c.args.rounds.now in
+          let it : IsDone u root soft rounds c.in-Ok-Refused.field-0 =
+          IfOk-at_ok (IsDone u root soft rounds) c.in-Ok-Refused.is done in
+          absurd (rw c.in-Ok-Refused.field-0-is at it);
+    }
 
 pub refuse-requires-in-Ok-Refused-clause-within : goal.refuse-requires-in-Ok-Refused-clause-within
 refuse-requires-in-Ok-Refused-clause-within g c = λ k d below. absurd (omega (arith, below))
-
-pub returns-in-Ok-Answer-clause-answer : goal.returns-in-Ok-Answer-clause-answer
-returns-in-Ok-Answer-clause-answer g c =
-    let u = g.D.Interner.universe c.args.self.now.provider in
-    let rounds = c.args.rounds.now in
-    let exempt = exempt_in c.accept.new.self in
-    IfOk-both (λ chosen. chosen.items ≡ chosen_of rounds)
-    (λ chosen. (root : Demands) (soft : List (SoftRequirement g.row.D-SolvableId.Denot)) → IfOk c.args.found (IsDone u root soft rounds) →
-    IsSoftAnswer u root soft chosen.items exempt)
-    (exempt ≡ (notes_of rounds).exempt)
-    (λ chosen are free root soft done. let it : IsDone u root soft rounds c.in-Ok-Answer.field-0 =
-    IfOk-at_ok (IsDone u root soft rounds) c.in-Ok-Answer.is done in
-    let between : IsBetween u root soft rounds = rw c.in-Ok-Answer.field-0-is at it in
-    soft_answer {E = g.row.D.Denot} u rounds (Ok chosen) exempt are free root soft between)
-    c.accept.result c.accept.ensures.chosen c.accept.ensures.exempt
-
-pub returns-in-Ok-Answer-clause-refusal : goal.returns-in-Ok-Answer-clause-refusal
-returns-in-Ok-Answer-clause-refusal g c =
-    let u = g.D.Interner.universe c.args.self.now.provider in
-    let rounds = c.args.rounds.now in
-    IfErr-weaker c.accept.result (λ e. e ≡ Exhausted Memory)
-    (λ e. (root : Demands) (soft : List (SoftRequirement g.row.D-SolvableId.Denot)) → IfOk c.args.found (IsDone u root soft rounds) →
-    IsRefusal u (g.D.DependencyProvider.may_cancel c.args.self.now.provider) root (IsStuck rounds) e)
-    (λ e is root soft done. rw is tt) c.accept.ensures.memory
 
 pub refuse-requires-clause-within : goal.refuse-requires-clause-within
 refuse-requires-clause-within g c =
