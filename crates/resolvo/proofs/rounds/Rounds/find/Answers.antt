@@ -173,3 +173,12 @@ hold-requires-clause-bookmarked g c =
     let found : IsFound u rest c.in_ok-all_rounds.field-0 = c.in_ok-all_rounds.ensures.found in
     let answering : IsAnswering u rest = rw c.in-Answer.is at found in
     answering.bookmarked
+
+pub soft_turns-requires-clause-can_next : goal.soft_turns-requires-clause-can_next
+soft_turns-requires-clause-can_next g c = c.requires.can_next
+
+pub soft_turns-requires-clause-ends : goal.soft_turns-requires-clause-ends
+soft_turns-requires-clause-ends g c = c.requires.ends
+
+pub hold-requires-clause-consistent : goal.hold-requires-clause-consistent
+hold-requires-clause-consistent g c = c.in_ok-all_rounds.ensures.rounds.consistent

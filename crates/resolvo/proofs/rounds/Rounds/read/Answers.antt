@@ -1,6 +1,6 @@
-use Rattle.std.proofs.Common.{subst, sym, ◌∙◌, All, Contains}
+use Rattle.std.proofs.Common.{length, subst, sym, ◌≤◌, ◌∙◌, All, Contains, List}
 use Rattle.resolver_clause_store.specs.declared.Origin.TheVariants.{Solvable}
-use Rattle.resolver_encoding.specs.Notes.{notes_in}
+use Rattle.resolver_encoding.specs.Notes.{IsBounded, notes_in}
 use Rattle.resolver_encoding.specs.declared.encoding.Encoding.{Encoding}
 use Rattle.resolvo.specs.ClauseSearches.{trail_of}
 use Rattle.resolvo.specs.RoundStates.{notes_of}
@@ -104,3 +104,22 @@ returns-in_err-progress g c =
           };
       refusal = IfErr-of c.from_residual-in_err-progress.result _ _ c.from_residual-in_err-progress.ensures.1 (full_stop (g.D.DependencyProvider.may_cancel c.args.provider.now) (record c.follow.new.self { encoding = c.read_chosen.new.self }) _ c.in_err-progress.ensures.refusal);
     }
+
+pub follow-requires-clause-distinct : goal.follow-requires-clause-distinct
+follow-requires-clause-distinct g c = c.requires.rounds.reading.so_far.half.encoding.distinct
+
+pub follow-requires-clause-identity : goal.follow-requires-clause-identity
+follow-requires-clause-identity g c = g.met.D.Interner.solvables_are_values
+
+pub follow-requires-clause-bookmark : goal.follow-requires-clause-bookmark
+follow-requires-clause-bookmark g c = c.requires.rounds.bookmark
+
+pub read_chosen-requires-clause-bounded : goal.read_chosen-requires-clause-bounded
+read_chosen-requires-clause-bounded g c =
+    let Bounded : Encoding g.row.N.Denot g.row.S.Denot → Type 0 = λ e. IsBounded e in
+    subst Bounded (sym c.in_ok-from.ensures.following.encoding) c.requires.rounds.bounded
+
+pub read_chosen-requires-clause-within : goal.read_chosen-requires-clause-within
+read_chosen-requires-clause-within g c =
+    let Within : List g.row.S.Denot → Type 0 = λ list. c.in_ok-from.from ≤ length list in
+    subst Within (sym c.solvables.ensures) c.in_ok-from.ensures.following.within

@@ -1,8 +1,8 @@
-use Rattle.std.proofs.lemmas.Grind.{common_steps}
+use Rattle.resolver_encoding.specs.Trails.{solvables_before}
 use Rattle.std.proofs.Common.{ap, arith, false, refl, subst, sym, ◌≡◌, ◌∙◌, ◌+◌, ◌-◌, ℕ}
 use Rattle.std.specs.Prelude.{length}
 use Rattle.resolvo.proofs.GoingLemmas.{still_all}
-use Rattle.resolver_clause_store.specs.TrailView.{Gains, IsCut, level_of, slot_of}
+use Rattle.resolver_clause_store.specs.TrailView.{Gains, IsCut, length_of, level_of, slot_of}
 use Rattle.resolver_clause_store.specs.declared.Reason.TheVariants.{Assumed}
 use Rattle.resolver_clause_store.specs.declared.Trail.{Trail}
 use Rattle.resolver_encoding.specs.Notes.{notes_in}
@@ -77,7 +77,16 @@ returns g c =
           (refused_within u mid (trail_of c.retract.new.self)
           (trail_of c.assume.new.self) c.args.variable _ c.in_ok-load.ensures.rounds assumed.base c.in_ok-retract.ensures.cut c.in_ok-assume.ensures.gains
           (ap (slot_of (trail_of c.retract.new.self)) (sym assumed.place) ∙ c.in_ok-retract.ensures.free) c.in_ok-follow.ensures.followed.chosen);
-      still = grind (arith, common_steps);
+      still = let followed = c.in_ok-follow.ensures.followed in
+          let encoding = c.in_ok-follow.ensures.following.encoding in
+          let trail = trail_of c.assume.new.self in
+          record {
+            held = followed.turn.held ∙ c.in_ok-assume.ensures.held ∙ ap length_of (sym followed.trail);
+            bookmarked = followed.bookmarked;
+            chosen = followed.chosen ∙
+                ap (λ (e : Encoding g.row.N.Denot g.row.S.Denot). solvables_before (notes_in e).origins trail (length_of trail)) (sym encoding) ∙
+                ap (λ (t : Trail). solvables_before (notes_of c.follow.new.self).origins t (length_of t)) (sym followed.trail);
+          };
       counted = let mid = c.load.new.self in
           let followed = c.in_ok-follow.ensures.followed in
           still_all mid c.follow.new.self (ap (λ (e : Encoding g.row.N.Denot g.row.S.Denot). length (notes_in e).kinds) c.in_ok-follow.ensures.following.encoding)
@@ -196,3 +205,20 @@ assume-requires-clause-bookmarked g c = c.in_ok-retract.ensures.count
 
 pub follow-requires-clause-distinct : goal.follow-requires-clause-distinct
 follow-requires-clause-distinct g c = c.in_ok-load.ensures.rounds.reading.so_far.half.encoding.distinct
+
+pub end_turn-requires-clause-one_turn : goal.end_turn-requires-clause-one_turn
+end_turn-requires-clause-one_turn g c = c.requires.one_turn
+
+pub retract-requires-clause-turn : goal.retract-requires-clause-turn
+retract-requires-clause-turn g c =
+    (still_assumed c.args.self.now.search c.load.new.self.search c.args.variable c.requires.rounds.consistent c.in_ok-load.ensures.turn
+    c.requires.assumed).base
+
+pub follow-requires-clause-identity : goal.follow-requires-clause-identity
+follow-requires-clause-identity g c = g.met.D.Interner.solvables_are_values
+
+pub assume-requires-clause-consistent : goal.assume-requires-clause-consistent
+assume-requires-clause-consistent g c = c.in_ok-retract.ensures.consistent
+
+pub follow-requires-clause-consistent : goal.follow-requires-clause-consistent
+follow-requires-clause-consistent g c = c.in_ok-assume.ensures.consistent

@@ -51,3 +51,18 @@ returns-in_err-list_turns g c =
       limits = room_trans c.args.self.now c.given_turns.new.self c.list_turns.new.self c.given_turns.ensures.limits c.list_turns.ensures.limits;
       refusal = IfErr-of c.from_residual-in_err-list_turns.result _ _ c.from_residual-in_err-list_turns.ensures.1 c.in_err-list_turns.ensures.refusal;
     }
+
+pub given_turns-requires-clause-can_next : goal.given_turns-requires-clause-can_next
+given_turns-requires-clause-can_next g c = c.requires.can_next
+
+pub given_turns-requires-clause-ends : goal.given_turns-requires-clause-ends
+given_turns-requires-clause-ends g c = c.requires.ends
+
+pub list_turns-requires-clause-counted : goal.list_turns-requires-clause-counted
+list_turns-requires-clause-counted g c = c.in_ok-given_turns.ensures.counted
+
+pub list_turns-requires-clause-still : goal.list_turns-requires-clause-still
+list_turns-requires-clause-still g c = c.in_ok-given_turns.ensures.still
+
+pub list_turns-requires-clause-rounds : goal.list_turns-requires-clause-rounds
+list_turns-requires-clause-rounds g c = c.in_ok-given_turns.ensures.rounds

@@ -4,7 +4,7 @@ use Rattle.std.proofs.lemmas.List.{map-append}
 use Rattle.resolver_clause_store.specs.declared.SoftRequirement.{SoftRequirement}
 use Rattle.resolver_clause_store.specs.declared.SoftRequirement.TheVariants.{Solvable}
 use Rattle.resolvo.specs.RoundStates.{IsBetween, IsLedBy}
-use Rattle.resolvo.proofs.RoundLemmas.{room_trans}
+use Rattle.resolvo.proofs.RoundLemmas.{room_same, room_trans}
 use Rattle.std.proofs.lemmas.Grind.{common_steps}
 use Rattle.resolvo.proofs.LeadingLemmas.{gives_all, gives_more, gives_these}
 use Rattle.std.proofs.lemmas.Result.{IfOk-from_err}
@@ -87,3 +87,20 @@ returns-in_err-soft_turn g c =
       limits = room_trans c.args.self.now c.loop-solvable.self c.soft_turn.new.self c.loop-solvable.invariant.room c.soft_turn.ensures.limits;
       refusal = IfErr-of c.from_residual.result _ _ c.from_residual.ensures.1 c.in_err-soft_turn.ensures.refusal;
     }
+
+pub loop-solvable-init : goal.loop-solvable-init
+loop-solvable-init g c = record {
+  is_true = c.requires.is_true;
+  rounds = c.requires.rounds;
+  still = c.requires.still;
+  counted = c.requires.counted;
+  room = room_same c.args.self.now;
+  between = λ root b. b;
+  led = λ root b led. led;
+}
+
+pub soft_turn-requires-clause-counted : goal.soft_turn-requires-clause-counted
+soft_turn-requires-clause-counted g c = c.loop-solvable.invariant.counted
+
+pub soft_turn-requires-clause-still : goal.soft_turn-requires-clause-still
+soft_turn-requires-clause-still g c = c.loop-solvable.invariant.still

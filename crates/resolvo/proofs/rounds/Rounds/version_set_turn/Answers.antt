@@ -199,3 +199,12 @@ returns-in_err-take_first g c =
       limits = room_trans c.args.self.now c.ask.new.self c.take_first.new.self c.ask.ensures.limits c.take_first.ensures.limits;
       refusal = IfErr-of c.from_residual-in_err-take_first.result _ _ c.from_residual-in_err-take_first.ensures.1 c.in_err-take_first.ensures.refusal;
     }
+
+pub take_first-requires-clause-counted : goal.take_first-requires-clause-counted
+take_first-requires-clause-counted g c = c.in_ok-ask.ensures.counted
+
+pub take_first-requires-clause-still : goal.take_first-requires-clause-still
+take_first-requires-clause-still g c = c.in_ok-ask.ensures.still
+
+pub take_first-requires-clause-rounds : goal.take_first-requires-clause-rounds
+take_first-requires-clause-rounds g c = c.in_ok-ask.ensures.rounds
