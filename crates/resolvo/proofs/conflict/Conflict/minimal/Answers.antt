@@ -2,37 +2,63 @@ use Rattle.resolvo.proofs.MinimalLemmas.{minimal_explains, minimal_irreducible, 
 use Rattle.resolvo.specs.Conflicts.{rules_in}
 use Rattle.resolvo.specs.Minimal.{marked}
 use Rattle.std.proofs.Common.{ap, length, sym, ◌∙◌}
+use Rattle.std.proofs.Common.{rules}
+use Rattle.std.proofs.lemmas.Result.{IfOk-from_err}
+use Rattle.resolver_encoding.proofs.RefusalLemmas.{IfErr-of}
 use Rattle.resolvo.proofs.conflict.Conflict.minimal.Goals as goal
 
-pub returns-clause-part : goal.returns-clause-part
-returns-clause-part g c =
-    minimal_part (rules_in c.args.self.now) (marked c.in_ok-marks.marks.items (rules_in c.args.self.now)) c.in_ok-copies.copies.items c.in_ok-rules.rules.items
-    (rw c.rules.ensures at c.in_ok-marks.ensures.left) (rw (c.deref.ensures.value, c.rules-2.ensures) at c.in_ok-copies.ensures.same) c.in_ok-rules.ensures.left
-
-pub returns-clause-in_turn : goal.returns-clause-in_turn
-returns-clause-in_turn g c = λ refuted.
-    minimal_left (rules_in c.args.self.now) (marked c.in_ok-marks.marks.items (rules_in c.args.self.now)) c.in_ok-copies.copies.items c.in_ok-rules.rules.items
-    (rw c.rules.ensures at c.in_ok-marks.ensures.left)
-    (rw (c.deref.ensures.value, c.rules-2.ensures) at c.in_ok-copies.ensures.same) c.in_ok-rules.ensures.left refuted c.in_ok-rules.ensures.refuted
-
-pub returns-clause-irreducible : goal.returns-clause-irreducible
-returns-clause-irreducible g c = λ refuted.
-    minimal_irreducible (rules_in c.args.self.now)
-    (marked c.in_ok-marks.marks.items (rules_in c.args.self.now)) c.in_ok-copies.copies.items c.in_ok-rules.rules.items
-    (rw c.rules.ensures at c.in_ok-marks.ensures.left)
-    (rw (c.deref.ensures.value, c.rules-2.ensures) at c.in_ok-copies.ensures.same) c.in_ok-rules.ensures.left refuted c.in_ok-rules.ensures.refuted
-
-pub returns-clause-explains : goal.returns-clause-explains
-returns-clause-explains g c =
-    minimal_explains (rules_in c.args.self.now)
-    (marked c.in_ok-marks.marks.items (rules_in c.args.self.now)) c.in_ok-copies.copies.items c.in_ok-rules.rules.items
-    (rw c.rules.ensures at c.in_ok-marks.ensures.left)
-    (rw (c.deref.ensures.value, c.rules-2.ensures) at c.in_ok-copies.ensures.same) c.in_ok-rules.ensures.left c.in_ok-rules.ensures.refuted
-    c.in_ok-rules.ensures.again
-
-pub returns-clause-memory : goal.returns-clause-memory
-returns-clause-memory g c = tt
+pub returns : goal.returns
+returns g c =
+    record {
+      part = minimal_part (rules_in c.args.self.now) (marked c.in_ok-marks.marks.items (rules_in c.args.self.now)) c.in_ok-copies.copies.items c.in_ok-rules.rules.items
+          (rw c.rules.ensures at c.in_ok-marks.ensures.left) (rw (c.deref.ensures.value, c.rules-2.ensures) at c.in_ok-copies.ensures.same) c.in_ok-rules.ensures.left;
+      in_turn = λ refuted.
+          minimal_left (rules_in c.args.self.now) (marked c.in_ok-marks.marks.items (rules_in c.args.self.now)) c.in_ok-copies.copies.items c.in_ok-rules.rules.items
+          (rw c.rules.ensures at c.in_ok-marks.ensures.left)
+          (rw (c.deref.ensures.value, c.rules-2.ensures) at c.in_ok-copies.ensures.same) c.in_ok-rules.ensures.left refuted c.in_ok-rules.ensures.refuted;
+      irreducible = λ refuted.
+          minimal_irreducible (rules_in c.args.self.now)
+          (marked c.in_ok-marks.marks.items (rules_in c.args.self.now)) c.in_ok-copies.copies.items c.in_ok-rules.rules.items
+          (rw c.rules.ensures at c.in_ok-marks.ensures.left)
+          (rw (c.deref.ensures.value, c.rules-2.ensures) at c.in_ok-copies.ensures.same) c.in_ok-rules.ensures.left refuted c.in_ok-rules.ensures.refuted;
+      explains = minimal_explains (rules_in c.args.self.now)
+          (marked c.in_ok-marks.marks.items (rules_in c.args.self.now)) c.in_ok-copies.copies.items c.in_ok-rules.rules.items
+          (rw c.rules.ensures at c.in_ok-marks.ensures.left)
+          (rw (c.deref.ensures.value, c.rules-2.ensures) at c.in_ok-copies.ensures.same) c.in_ok-rules.ensures.left c.in_ok-rules.ensures.refuted
+          c.in_ok-rules.ensures.again;
+      memory = tt;
+    }
 
 pub copies_of-requires : goal.copies_of-requires
 copies_of-requires g c =
     ap length c.deref.ensures.value ∙ (c.in_ok-marks.ensures.size ∙ ap length (c.rules.ensures ∙ sym c.rules-2.ensures))
+
+pub returns-in_err-marks : goal.returns-in_err-marks
+returns-in_err-marks g c =
+    record {
+      part = IfOk-from_err c.from_residual.result _ c.from_residual.ensures.0;
+      in_turn = IfOk-from_err c.from_residual.result _ c.from_residual.ensures.0;
+      irreducible = IfOk-from_err c.from_residual.result _ c.from_residual.ensures.0;
+      explains = IfOk-from_err c.from_residual.result _ c.from_residual.ensures.0;
+      memory = IfErr-of c.from_residual.result _ _ c.from_residual.ensures.1 c.in_err-marks.ensures.memory;
+    }
+
+pub returns-in_err-copies : goal.returns-in_err-copies
+returns-in_err-copies g c =
+    record {
+      part = IfOk-from_err c.from_residual-in_err-copies.result _ c.from_residual-in_err-copies.ensures.0;
+      in_turn = IfOk-from_err c.from_residual-in_err-copies.result _ c.from_residual-in_err-copies.ensures.0;
+      irreducible = IfOk-from_err c.from_residual-in_err-copies.result _ c.from_residual-in_err-copies.ensures.0;
+      explains = IfOk-from_err c.from_residual-in_err-copies.result _ c.from_residual-in_err-copies.ensures.0;
+      memory = IfErr-of c.from_residual-in_err-copies.result _ _ c.from_residual-in_err-copies.ensures.1 c.in_err-copies.ensures.memory;
+    }
+
+pub returns-in_err-rules : goal.returns-in_err-rules
+returns-in_err-rules g c =
+    record {
+      part = IfOk-from_err c.from_residual-in_err-rules.result _ c.from_residual-in_err-rules.ensures.0;
+      in_turn = IfOk-from_err c.from_residual-in_err-rules.result _ c.from_residual-in_err-rules.ensures.0;
+      irreducible = IfOk-from_err c.from_residual-in_err-rules.result _ c.from_residual-in_err-rules.ensures.0;
+      explains = IfOk-from_err c.from_residual-in_err-rules.result _ c.from_residual-in_err-rules.ensures.0;
+      memory = IfErr-of c.from_residual-in_err-rules.result _ _ c.from_residual-in_err-rules.ensures.1 c.in_err-rules.ensures.memory;
+    }

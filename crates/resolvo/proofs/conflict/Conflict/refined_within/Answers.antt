@@ -1,5 +1,6 @@
 use Rattle.resolvo.proofs.RefinedLemmas.{refined_explains, refined_part, refined_refuted}
 use Rattle.resolvo.specs.Conflicts.{rules_in}
+use Rattle.std.proofs.Common.{ap, length, sym, ◌∙◌}
 use Rattle.std.proofs.Common.{rules}
 use Rattle.std.proofs.lemmas.Result.{IfOk-from_err}
 use Rattle.resolver_encoding.proofs.RefusalLemmas.{IfErr-of}
@@ -45,3 +46,7 @@ returns-in_err-rules g c =
       explains = IfOk-from_err c.from_residual-in_err-rules.result _ c.from_residual-in_err-rules.ensures.0;
       memory = IfErr-of c.from_residual-in_err-rules.result _ _ c.from_residual-in_err-rules.ensures.1 c.in_err-rules.ensures.memory;
     }
+
+pub copies_of-requires : goal.copies_of-requires
+copies_of-requires g c =
+    ap length c.deref.ensures.value ∙ (c.in_ok-marks.ensures.size ∙ ap length (c.rules.ensures ∙ sym c.rules-2.ensures))
