@@ -9,6 +9,8 @@ use Rattle.std.proofs.lemmas.Bool.{cases_lt, cases_eq}
 use Rattle.std.proofs.lemmas.List.Elements.{All-append, All-cons, All-nil, Contains-append_left}
 use Rattle.std.proofs.lemmas.List.Quantifiers.{Any-push}
 use Rattle.std.proofs.lemmas.Option.{same_Some, none-some, slice_get_within, get_or_from_slice_get, slice_get-get_or}
+use Rattle.resolver_clause_store.specs.Slots.{is_decided}
+use Rattle.resolvo.specs.Propagation.{Extends}
 use Rattle.resolver_clause_store.specs.declared.Literal.{Literal}
 use Rattle.resolver_clause_store.specs.declared.Slot.{Slot}
 use Rattle.resolver_clause_store.specs.declared.Reason.TheVariants.{Forced}
@@ -489,3 +491,16 @@ pub moves-stands : (table : List (List Literal)) (trail : Trail) (old : Propagat
 moves-stands table trail old watches falsified place number other to v stands m fit p r =
     let M : ℕ → Type 0 = λ n. MovesWatch (lists_of old.watches) (lists_of watches) (pairs_of old.watches) (pairs_of watches) falsified.literal to place n in
     moves table trail old watches falsified place number other to v (subst M stands.named m) fit p r (slice_get_within _ place stands.watch stands.is)
+
+-- a trail extends itself, and what extends a longer trail extends the first
+pub extends-same : (trail : Trail) → Extends trail trail
+extends-same trail = record { kept = λ variable slot at. at; only = λ variable slot at. inl at }
+
+pub extends-trans : (one two three : Trail) → Extends one two → Extends two three → Extends one three
+extends-trans one two three first second =
+    record {
+      kept = λ variable slot at. second.kept variable slot (first.kept variable slot at);
+      only = λ variable slot at. ⊎_elim
+          (λ (was : slot_of two variable ≡ Some slot). first.only variable slot was)
+          (λ (forced : is_decided slot.reason ≡ false). inr forced) (second.only variable slot at);
+    }

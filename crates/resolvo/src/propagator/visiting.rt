@@ -219,7 +219,7 @@ impl Propagator {
         ensures justified { IsJustified table.now trail.new }
         ensures extends { Extends trail.old trail.new }
         ensures size { variable_count trail.new ≡ variable_count trail.old }
-        ensures open { open_count trail.new ≤ open_count trail.old }
+        ensures open_ones { open_count trail.new ≤ open_count trail.old }
         ensures total { open_count trail.new + length_of trail.new ≡ open_count trail.old + length_of trail.old }
     {
         match trail.value(watcher.other) {
@@ -252,7 +252,7 @@ impl Propagator {
         ensures justified { IsJustified table.now trail.new }
         ensures extends { Extends trail.old trail.new }
         ensures size { variable_count trail.new ≡ variable_count trail.old }
-        ensures open { open_count trail.new ≤ open_count trail.old }
+        ensures open_ones { open_count trail.new ≤ open_count trail.old }
         ensures total { open_count trail.new + length_of trail.new ≡ open_count trail.old + length_of trail.old }
     {
         let literals = clause(table, watcher.number);
@@ -288,7 +288,7 @@ impl Propagator {
         ensures justified { IsJustified table.now trail.new }
         ensures extends { Extends trail.old trail.new }
         ensures size { variable_count trail.new ≡ variable_count trail.old }
-        ensures open { open_count trail.new ≤ open_count trail.old }
+        ensures open_ones { open_count trail.new ≤ open_count trail.old }
         ensures total { open_count trail.new + length_of trail.new ≡ open_count trail.old + length_of trail.old }
     {
         let pair = self.watches.pair(number);
@@ -326,7 +326,7 @@ impl Propagator {
         ensures justified { IsJustified table.now trail.new }
         ensures extends { Extends trail.old trail.new }
         ensures size { variable_count trail.new ≡ variable_count trail.old }
-        ensures open { open_count trail.new ≤ open_count trail.old }
+        ensures open_ones { open_count trail.new ≤ open_count trail.old }
         ensures total { open_count trail.new + length_of trail.new ≡ open_count trail.old + length_of trail.old }
     {
         trail.force(binary.other, binary.number)?;
@@ -371,7 +371,7 @@ impl Propagator {
         ensures justified { IsJustified table.now trail.new }
         ensures extends { Extends trail.old trail.new }
         ensures size { variable_count trail.new ≡ variable_count trail.old }
-        ensures open { open_count trail.new ≤ open_count trail.old }
+        ensures open_ones { open_count trail.new ≤ open_count trail.old }
         ensures total { open_count trail.new + length_of trail.new ≡ open_count trail.old + length_of trail.old }
     {
         let watch = self.watches.watch_at(falsified.literal, place);
@@ -409,7 +409,7 @@ impl Propagator {
         ensures justified { IsJustified table.now trail.new }
         ensures extends { Extends trail.old trail.new }
         ensures size { variable_count trail.new ≡ variable_count trail.old }
-        ensures open { open_count trail.new ≤ open_count trail.old }
+        ensures open_ones { open_count trail.new ≤ open_count trail.old }
         ensures total { open_count trail.new + length_of trail.new ≡ open_count trail.old + length_of trail.old }
     {
         let falsified = self.false_literal(trail);
@@ -443,7 +443,7 @@ pub fn propagate(
     ensures justified { IsJustified table.now trail.new }
     ensures extends { Extends trail.old trail.new }
     ensures size { variable_count trail.new ≡ variable_count trail.old }
-    ensures open { open_count trail.new ≤ open_count trail.old }
+    ensures open_ones { open_count trail.new ≤ open_count trail.old }
 {
     'places: while propagator.head < trail.len() {
         if let Some(number) = propagator.visit(trail, table)? {

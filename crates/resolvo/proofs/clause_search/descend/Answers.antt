@@ -220,7 +220,7 @@ pub take-requires-clause-first : goal.take-requires-clause-first
 take-requires-clause-first g c = (rw c.in-Some-3.is at c.in_ok-choice.ensures.some).chosen.first
 
 pub rounds-smaller : goal.rounds-smaller
-rounds-smaller g c = omega (arith, c.in_ok-take-in-Some-3.ensures.fewer, c.propagate.ensures.open)
+rounds-smaller g c = omega (arith, c.in_ok-take-in-Some-3.ensures.fewer, c.propagate.ensures.open_ones)
 
 pub take-requires-clause-inside : goal.take-requires-clause-inside
 take-requires-clause-inside g c =

@@ -3,42 +3,51 @@ use Rattle.std.proofs.lemmas.Grind.{common_steps}
 use Rattle.resolvo.proofs.VisitLemmas.{moves-stands, own-other, stands-own}
 use Rattle.resolvo.proofs.TwoLiteralLemmas.{false-now, own-false}
 use Rattle.resolvo.proofs.WatchedLemmas.{owned-of, owned-same, refused-any}
+use Rattle.resolvo.proofs.VisitLemmas.{extends-same}
+use Rattle.std.proofs.lemmas.Result.{IfOk-from_err}
+use Rattle.std.proofs.Common.{refl}
 use Rattle.resolvo.proofs.propagator.Propagator.find_replacement.Goals as goal
 
-pub returns-in_ok-move_watch-in-Some-clause-outcome :
-    goal.returns-in_ok-move_watch-in-Some-clause-outcome
-returns-in_ok-move_watch-in-Some-clause-outcome c =
-    let was = c.requires.visiting.propagator in
-    let stands = c.requires.stands in
-    let moved = c.in_ok-move_watch-in-Some.ensures in
-    let own = stands-own _ _ _ _ _ stands (own-other _ _ _ _ _ _ was c.requires.pair) in
-    moves-stands _ _ _ _ _ _ _ _ _ c.requires.visiting stands (moved.moved stands.watch stands.is)
-    (moved.fit _ stands.watch stands.is own was.watched.fit) c.requires.pair (rw c.clause-literals.ensures at c.in-Some.ensures)
+pub returns-in_ok-move_watch-in-Some : goal.returns-in_ok-move_watch-in-Some
+returns-in_ok-move_watch-in-Some c =
+    record {
+      outcome =     let was = c.requires.visiting.propagator in
+          let stands = c.requires.stands in
+          let moved = c.in_ok-move_watch-in-Some.ensures in
+          let own = stands-own _ _ _ _ _ stands (own-other _ _ _ _ _ _ was c.requires.pair) in
+          moves-stands _ _ _ _ _ _ _ _ _ c.requires.visiting stands (moved.moved stands.watch stands.is)
+          (moved.fit _ stands.watch stands.is own was.watched.fit) c.requires.pair (rw c.clause-literals.ensures at c.in-Some.ensures);
+      refused = tt;
+      justified = c.requires.justified;
+      extends = extends-same c.args.trail.now;
+      size = refl;
+      open_ones = omega arith;
+      total = refl;
+    }
 
-pub returns-in_ok-outcome-in-None-clause-extends : goal.returns-in_ok-outcome-in-None-clause-extends
-returns-in_ok-outcome-in-None-clause-extends c = grind (arith, common_steps)
+pub returns-in_ok-outcome-in-None : goal.returns-in_ok-outcome-in-None
+returns-in_ok-outcome-in-None c =
+    record {
+      outcome = c.in_ok-outcome-in-None.ensures.outcome;
+      refused = tt;
+      justified = c.force_other.ensures.justified;
+      extends = c.force_other.ensures.extends;
+      size = c.force_other.ensures.size;
+      open_ones = c.force_other.ensures.open_ones;
+      total = c.force_other.ensures.total;
+    }
 
-pub returns-in_ok-outcome-in-None-clause-justified : goal.returns-in_ok-outcome-in-None-clause-justified
-returns-in_ok-outcome-in-None-clause-justified c = grind (arith, common_steps)
-
-pub returns-in_ok-outcome-in-None-clause-outcome : goal.returns-in_ok-outcome-in-None-clause-outcome
-returns-in_ok-outcome-in-None-clause-outcome c = grind (arith, common_steps)
-
-pub returns-in_ok-outcome-in-None-clause-open : goal.returns-in_ok-outcome-in-None-clause-open
-returns-in_ok-outcome-in-None-clause-open c = grind (arith, common_steps)
-
-pub returns-in_ok-move_watch-in-Some-clause-extends : goal.returns-in_ok-move_watch-in-Some-clause-extends
-returns-in_ok-move_watch-in-Some-clause-extends c = grind (arith, common_steps)
-
-pub returns-in_ok-move_watch-in-Some-clause-justified : goal.returns-in_ok-move_watch-in-Some-clause-justified
-returns-in_ok-move_watch-in-Some-clause-justified c = grind (arith, common_steps)
-
-pub returns-in_ok-move_watch-in-Some-clause-open : goal.returns-in_ok-move_watch-in-Some-clause-open
-returns-in_ok-move_watch-in-Some-clause-open c = grind (arith, common_steps)
-
-pub returns-in_err-move_watch-in-Some-clause-refused : goal.returns-in_err-move_watch-in-Some-clause-refused
-returns-in_err-move_watch-in-Some-clause-refused c =
-    refused-any _ _ (owned-same _ _ _ c.in_err-move_watch-in-Some.ensures.kept (owned-of _ _ _ c.requires.visiting.propagator))
+pub returns-in_err-move_watch-in-Some : goal.returns-in_err-move_watch-in-Some
+returns-in_err-move_watch-in-Some c =
+    record {
+      outcome = IfOk-from_err c.from_residual.result _ c.from_residual.ensures.0;
+      refused =     refused-any _ _ (owned-same _ _ _ c.in_err-move_watch-in-Some.ensures.kept (owned-of _ _ _ c.requires.visiting.propagator));
+      justified = c.requires.justified;
+      extends = extends-same c.args.trail.now;
+      size = refl;
+      open_ones = omega arith;
+      total = refl;
+    }
 
 pub replacement-requires-clause-falsified : goal.replacement-requires-clause-falsified
 replacement-requires-clause-falsified c = false-now _ _ _ _ _ c.requires.visiting
@@ -51,3 +60,15 @@ replacement-requires-clause-other c = rw c.clause-literals.ensures (own-other _ 
 
 pub replacement-requires-clause-differ : goal.replacement-requires-clause-differ
 replacement-requires-clause-differ c = c.requires.pair.differ
+
+pub returns-in_err-outcome-in-None : goal.returns-in_err-outcome-in-None
+returns-in_err-outcome-in-None c =
+    record {
+      outcome = IfOk-from_err c.from_residual-in_err-outcome-in-None.result _ c.from_residual-in_err-outcome-in-None.ensures.0;
+      refused = refused-any _ _ c.in_err-outcome-in-None.ensures.refused;
+      justified = c.force_other.ensures.justified;
+      extends = c.force_other.ensures.extends;
+      size = c.force_other.ensures.size;
+      open_ones = c.force_other.ensures.open_ones;
+      total = c.force_other.ensures.total;
+    }

@@ -39,8 +39,8 @@ returns-in_ok-outcome-in-None-clause-extends c =
 pub returns-in_ok-outcome-in-None-clause-outcome : goal.returns-in_ok-outcome-in-None-clause-outcome
 returns-in_ok-outcome-in-None-clause-outcome c = grind (arith, common_steps)
 
-pub returns-in_ok-outcome-in-None-clause-open : goal.returns-in_ok-outcome-in-None-clause-open
-returns-in_ok-outcome-in-None-clause-open c = grind (arith, common_steps)
+pub returns-in_ok-outcome-in-None-clause-open_ones : goal.returns-in_ok-outcome-in-None-clause-open_ones
+returns-in_ok-outcome-in-None-clause-open_ones c = grind (arith, common_steps)
 
 pub returns-in_err-force-in-None-clause-refused : goal.returns-in_err-force-in-None-clause-refused
 returns-in_err-force-in-None-clause-refused c = refused-any _ _ (owned-of _ _ _ c.requires.visiting.propagator)

@@ -1,29 +1,29 @@
 use Rattle.std.proofs.lemmas.Grind.{common_steps}
-use Rattle.std.proofs.Common.{arith}
+use Rattle.std.proofs.Common.{arith, ◌+◌, ◌∙◌}
 use Rattle.resolvo.proofs.VisitLemmas.{blockers-below, visited}
 use Rattle.resolver_clause_store.proofs.WatchListLemmas.{watching-stands}
+use Rattle.resolvo.proofs.VisitLemmas.{extends-trans}
+use Rattle.resolvo.proofs.WatchedLemmas.{refused-any}
+use Rattle.std.proofs.Common.{ap}
+use Rattle.std.proofs.lemmas.Result.{IfOk-from_err}
 use Rattle.resolvo.proofs.propagator.Propagator.visit.Goals as goal
 
-pub returns-clause-propagator : goal.returns-clause-propagator
-returns-clause-propagator c =
-    visited _ _ _ _ _ c.watchers.invariant.visiting (omega (arith, c.watchers-test.false, c.count.ensures)) (λ number watching.
-    let s = watching-stands _ _ number _ c.watchers.self.watches.watched watching in
-    (s.0, record { watch = s.1; is = s.2; named = s.3 }))
-
-pub returns-clause-attached : goal.returns-clause-attached
-returns-clause-attached c = grind (arith, common_steps)
-
-pub returns-clause-conflict : goal.returns-clause-conflict
-returns-clause-conflict c = grind (arith, common_steps)
-
-pub returns-clause-extends : goal.returns-clause-extends
-returns-clause-extends c = grind (arith, common_steps)
-
-pub returns-clause-justified : goal.returns-clause-justified
-returns-clause-justified c = grind (arith, common_steps)
-
-pub returns-clause-open : goal.returns-clause-open
-returns-clause-open c = grind (arith, common_steps)
+pub returns : goal.returns
+returns c =
+    record {
+      conflict = tt;
+      head = ap (λ n. n + 1) c.watchers.invariant.head;
+      propagator =     visited _ _ _ _ _ c.watchers.invariant.visiting (omega (arith, c.watchers-test.false, c.count.ensures)) (λ number watching.
+          let s = watching-stands _ _ number _ c.watchers.self.watches.watched watching in
+          (s.0, record { watch = s.1; is = s.2; named = s.3 }));
+      attached = grind (arith, common_steps);
+      refused = tt;
+      justified = c.watchers.invariant.justified;
+      extends = c.watchers.invariant.extends;
+      size = c.watchers.invariant.size;
+      open_ones = c.watchers.invariant.open_ones;
+      total = c.watchers.invariant.total;
+    }
 
 pub next_place-place-requires-clause-below : goal.next_place-place-requires-clause-below
 next_place-place-requires-clause-below c = blockers-below c.args.table.now c.args.trail.now c.args.self.now _ c.requires.below c.requires.propagator
@@ -32,3 +32,33 @@ pub next_place-place-requires-in-Next-clause-below : goal.next_place-place-requi
 next_place-place-requires-in-Next-clause-below c =
     let goes = rw c.in-Next.is at c.in_ok-next.ensures.outcome in
     blockers-below c.args.table.now _ _ _ goes.visiting.below goes.visiting.propagator
+
+pub returns-in_err-next : goal.returns-in_err-next
+returns-in_err-next c =
+    record {
+      conflict = IfOk-from_err c.from_residual.result _ c.from_residual.ensures.0;
+      head = IfOk-from_err c.from_residual.result _ c.from_residual.ensures.0;
+      propagator = IfOk-from_err c.from_residual.result _ c.from_residual.ensures.0;
+      attached = IfOk-from_err c.from_residual.result _ c.from_residual.ensures.0;
+      refused = refused-any _ _ c.in_err-next.ensures.refused;
+      justified = c.visit_watcher.ensures.justified;
+      extends = extends-trans _ _ _ c.watchers.invariant.extends c.visit_watcher.ensures.extends;
+      size = c.visit_watcher.ensures.size ∙ c.watchers.invariant.size;
+      open_ones = omega (arith, c.visit_watcher.ensures.open_ones, c.watchers.invariant.open_ones);
+      total = c.visit_watcher.ensures.total ∙ c.watchers.invariant.total;
+    }
+
+pub returns-in-Conflict : goal.returns-in-Conflict
+returns-in-Conflict c =
+    record {
+      conflict = (rw c.in-Conflict.is at c.in_ok-next.ensures.outcome).conflict;
+      head = tt;
+      propagator = (rw c.in-Conflict.is at c.in_ok-next.ensures.outcome).propagator;
+      attached = (rw c.in-Conflict.is at c.in_ok-next.ensures.outcome).attached;
+      refused = tt;
+      justified = c.visit_watcher.ensures.justified;
+      extends = extends-trans _ _ _ c.watchers.invariant.extends c.visit_watcher.ensures.extends;
+      size = c.visit_watcher.ensures.size ∙ c.watchers.invariant.size;
+      open_ones = omega (arith, c.visit_watcher.ensures.open_ones, c.watchers.invariant.open_ones);
+      total = c.visit_watcher.ensures.total ∙ c.watchers.invariant.total;
+    }

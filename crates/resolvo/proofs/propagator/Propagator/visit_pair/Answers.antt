@@ -1,6 +1,10 @@
 use Rattle.std.proofs.Common.{arith}
 use Rattle.std.proofs.lemmas.Grind.{common_steps}
 use Rattle.resolvo.proofs.VisitLemmas.{below-contains, own-other, paired}
+use Rattle.resolvo.proofs.VisitLemmas.{extends-same}
+use Rattle.resolvo.proofs.WatchedLemmas.{refused-any}
+use Rattle.std.proofs.lemmas.Result.{IfOk-from_err}
+use Rattle.std.proofs.Common.{refl}
 use Rattle.resolvo.proofs.propagator.Propagator.visit_pair.Goals as goal
 
 pub is_true-requires : goal.is_true-requires
@@ -19,26 +23,50 @@ find_replacement-requires-clause-pair c =
     paired _ _ _ _ _ _ c.requires.visiting.propagator.watched c.requires.inside c.requires.watching
     (rw c.pair-pair.ensures at c.other_watched.ensures)
 
-pub returns-clause-extends : goal.returns-clause-extends
-returns-clause-extends c = grind (arith, common_steps)
+pub returns : goal.returns
+returns c =
+    record {
+      outcome = c.in_ok-outcome-2.ensures.outcome;
+      refused = tt;
+      justified = c.find_replacement.ensures.justified;
+      extends = c.find_replacement.ensures.extends;
+      size = c.find_replacement.ensures.size;
+      open_ones = c.find_replacement.ensures.open_ones;
+      total = c.find_replacement.ensures.total;
+    }
 
-pub returns-clause-justified : goal.returns-clause-justified
-returns-clause-justified c = grind (arith, common_steps)
+pub returns-then-is_true : goal.returns-then-is_true
+returns-then-is_true c =
+    record {
+      outcome = c.in_ok-outcome.ensures.outcome;
+      refused = tt;
+      justified = c.requires.justified;
+      extends = extends-same c.args.trail.now;
+      size = refl;
+      open_ones = omega arith;
+      total = refl;
+    }
 
-pub returns-clause-outcome : goal.returns-clause-outcome
-returns-clause-outcome c = grind (arith, common_steps)
+pub returns-in_err-outcome : goal.returns-in_err-outcome
+returns-in_err-outcome c =
+    record {
+      outcome = IfOk-from_err c.from_residual.result _ c.from_residual.ensures.0;
+      refused = refused-any _ _ c.in_err-outcome.ensures.refused;
+      justified = c.requires.justified;
+      extends = extends-same c.args.trail.now;
+      size = refl;
+      open_ones = omega arith;
+      total = refl;
+    }
 
-pub returns-clause-open : goal.returns-clause-open
-returns-clause-open c = grind (arith, common_steps)
-
-pub returns-then-is_true-clause-extends : goal.returns-then-is_true-clause-extends
-returns-then-is_true-clause-extends c = grind (arith, common_steps)
-
-pub returns-then-is_true-clause-justified : goal.returns-then-is_true-clause-justified
-returns-then-is_true-clause-justified c = grind (arith, common_steps)
-
-pub returns-then-is_true-clause-outcome : goal.returns-then-is_true-clause-outcome
-returns-then-is_true-clause-outcome c = grind (arith, common_steps)
-
-pub returns-then-is_true-clause-open : goal.returns-then-is_true-clause-open
-returns-then-is_true-clause-open c = grind (arith, common_steps)
+pub returns-in_err-outcome-2 : goal.returns-in_err-outcome-2
+returns-in_err-outcome-2 c =
+    record {
+      outcome = IfOk-from_err c.from_residual-in_err-outcome-2.result _ c.from_residual-in_err-outcome-2.ensures.0;
+      refused = refused-any _ _ c.in_err-outcome-2.ensures.refused;
+      justified = c.find_replacement.ensures.justified;
+      extends = c.find_replacement.ensures.extends;
+      size = c.find_replacement.ensures.size;
+      open_ones = c.find_replacement.ensures.open_ones;
+      total = c.find_replacement.ensures.total;
+    }

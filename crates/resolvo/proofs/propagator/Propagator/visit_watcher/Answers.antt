@@ -2,6 +2,10 @@ use Rattle.std.proofs.Common.{arith, sym, ◌∙◌}
 use Rattle.std.proofs.lemmas.Grind.{common_steps}
 use Rattle.resolver_clause_store.proofs.WatchListLemmas.{fit-at}
 use Rattle.resolvo.proofs.VisitLemmas.{below-contains, makes-true, tested-true}
+use Rattle.resolvo.proofs.VisitLemmas.{extends-same}
+use Rattle.resolvo.proofs.WatchedLemmas.{refused-any}
+use Rattle.std.proofs.lemmas.Result.{IfOk-from_err}
+use Rattle.std.proofs.Common.{refl}
 use Rattle.resolvo.proofs.propagator.Propagator.visit_watcher.Goals as goal
 
 pub value-value-requires : goal.value-value-requires
@@ -24,41 +28,77 @@ force_binary-requires-clause-two c =
     (fit-at _ _ _ _ _ c.requires.visiting.propagator.watched.fit c.watch_at-watch.ensures.value).two
     (c.is_forced.ensures c.if-is_forced.true).0
 
-pub returns-clause-extends : goal.returns-clause-extends
-returns-clause-extends c = grind (arith, common_steps)
+pub returns : goal.returns
+returns c =
+    record {
+      outcome = c.in_ok-outcome-3.ensures.outcome;
+      refused = tt;
+      justified = c.visit_pair.ensures.justified;
+      extends = c.visit_pair.ensures.extends;
+      size = c.visit_pair.ensures.size;
+      open_ones = c.visit_pair.ensures.open_ones;
+      total = c.visit_pair.ensures.total;
+    }
 
-pub returns-clause-justified : goal.returns-clause-justified
-returns-clause-justified c = grind (arith, common_steps)
+pub returns-then-eq : goal.returns-then-eq
+returns-then-eq c =
+    record {
+      outcome = c.in_ok-outcome.ensures.outcome;
+      refused = tt;
+      justified = c.requires.justified;
+      extends = extends-same c.args.trail.now;
+      size = refl;
+      open_ones = omega arith;
+      total = refl;
+    }
 
-pub returns-clause-outcome : goal.returns-clause-outcome
-returns-clause-outcome c = grind (arith, common_steps)
-
-pub returns-clause-open : goal.returns-clause-open
-returns-clause-open c = grind (arith, common_steps)
-
-pub returns-then-eq-clause-extends : goal.returns-then-eq-clause-extends
-returns-then-eq-clause-extends c = grind (arith, common_steps)
-
-pub returns-then-eq-clause-justified : goal.returns-then-eq-clause-justified
-returns-then-eq-clause-justified c = grind (arith, common_steps)
-
-pub returns-then-eq-clause-outcome : goal.returns-then-eq-clause-outcome
-returns-then-eq-clause-outcome c = grind (arith, common_steps)
-
-pub returns-then-eq-clause-open : goal.returns-then-eq-clause-open
-returns-then-eq-clause-open c = grind (arith, common_steps)
-
-pub returns-then-is_forced-clause-extends : goal.returns-then-is_forced-clause-extends
-returns-then-is_forced-clause-extends c = grind (arith, common_steps)
-
-pub returns-then-is_forced-clause-justified : goal.returns-then-is_forced-clause-justified
-returns-then-is_forced-clause-justified c = grind (arith, common_steps)
-
-pub returns-then-is_forced-clause-outcome : goal.returns-then-is_forced-clause-outcome
-returns-then-is_forced-clause-outcome c = grind (arith, common_steps)
-
-pub returns-then-is_forced-clause-open : goal.returns-then-is_forced-clause-open
-returns-then-is_forced-clause-open c = grind (arith, common_steps)
+pub returns-then-is_forced : goal.returns-then-is_forced
+returns-then-is_forced c =
+    record {
+      outcome = c.in_ok-outcome-2.ensures.outcome;
+      refused = tt;
+      justified = c.force_binary.ensures.justified;
+      extends = c.force_binary.ensures.extends;
+      size = c.force_binary.ensures.size;
+      open_ones = c.force_binary.ensures.open_ones;
+      total = c.force_binary.ensures.total;
+    }
 
 pub force_binary-requires-clause-free : goal.force_binary-requires-clause-free
 force_binary-requires-clause-free c = sym c.value-value.ensures ∙ (c.is_forced.ensures c.if-is_forced.true).1
+
+pub returns-in_err-outcome : goal.returns-in_err-outcome
+returns-in_err-outcome c =
+    record {
+      outcome = IfOk-from_err c.from_residual.result _ c.from_residual.ensures.0;
+      refused = refused-any _ _ c.in_err-outcome.ensures.refused;
+      justified = c.requires.justified;
+      extends = extends-same c.args.trail.now;
+      size = refl;
+      open_ones = omega arith;
+      total = refl;
+    }
+
+pub returns-in_err-outcome-2 : goal.returns-in_err-outcome-2
+returns-in_err-outcome-2 c =
+    record {
+      outcome = IfOk-from_err c.from_residual-in_err-outcome-2.result _ c.from_residual-in_err-outcome-2.ensures.0;
+      refused = refused-any _ _ c.in_err-outcome-2.ensures.refused;
+      justified = c.force_binary.ensures.justified;
+      extends = c.force_binary.ensures.extends;
+      size = c.force_binary.ensures.size;
+      open_ones = c.force_binary.ensures.open_ones;
+      total = c.force_binary.ensures.total;
+    }
+
+pub returns-in_err-outcome-3 : goal.returns-in_err-outcome-3
+returns-in_err-outcome-3 c =
+    record {
+      outcome = IfOk-from_err c.from_residual-in_err-outcome-3.result _ c.from_residual-in_err-outcome-3.ensures.0;
+      refused = refused-any _ _ c.in_err-outcome-3.ensures.refused;
+      justified = c.visit_pair.ensures.justified;
+      extends = c.visit_pair.ensures.extends;
+      size = c.visit_pair.ensures.size;
+      open_ones = c.visit_pair.ensures.open_ones;
+      total = c.visit_pair.ensures.total;
+    }
