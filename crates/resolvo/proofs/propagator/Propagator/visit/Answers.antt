@@ -62,3 +62,21 @@ returns-in-Conflict c =
       open_ones = omega (arith, c.visit_watcher.ensures.open_ones, c.watchers.invariant.open_ones);
       total = c.visit_watcher.ensures.total ∙ c.watchers.invariant.total;
     }
+
+pub watchers-preserved : goal.watchers-preserved
+watchers-preserved c =
+    let goes = rw c.in-Next.is at c.in_ok-next.ensures.outcome in
+    record {
+      visiting = c.next_place-place-in-Next.ensures.visiting c.args.table.now goes.visiting;
+      head = goes.head ∙ c.watchers.invariant.head;
+      justified = c.visit_watcher.ensures.justified;
+      extends = extends-trans _ _ _ c.watchers.invariant.extends c.visit_watcher.ensures.extends;
+      size = c.visit_watcher.ensures.size ∙ c.watchers.invariant.size;
+      open_ones = omega (arith, c.visit_watcher.ensures.open_ones, c.watchers.invariant.open_ones);
+      total = c.visit_watcher.ensures.total ∙ c.watchers.invariant.total;
+    }
+
+pub watchers-smaller : goal.watchers-smaller
+watchers-smaller c =
+    let goes = rw c.in-Next.is at c.in_ok-next.ensures.outcome in
+    omega (arith, goes.fewer, c.next_place-place-in-Next.ensures.above)
