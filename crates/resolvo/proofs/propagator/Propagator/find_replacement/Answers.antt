@@ -11,7 +11,7 @@ use Rattle.resolvo.proofs.propagator.Propagator.find_replacement.Goals as goal
 pub returns-in_ok-move_watch-in-Some : goal.returns-in_ok-move_watch-in-Some
 returns-in_ok-move_watch-in-Some c =
     record {
-      outcome =     let was = c.requires.visiting.propagator in
+      outcome = let was = c.requires.visiting.propagator in
           let stands = c.requires.stands in
           let moved = c.in_ok-move_watch-in-Some.ensures in
           let own = stands-own _ _ _ _ _ stands (own-other _ _ _ _ _ _ was c.requires.pair) in
@@ -41,7 +41,7 @@ pub returns-in_err-move_watch-in-Some : goal.returns-in_err-move_watch-in-Some
 returns-in_err-move_watch-in-Some c =
     record {
       outcome = IfOk-from_err c.from_residual.result _ c.from_residual.ensures.0;
-      refused =     refused-any _ _ (owned-same _ _ _ c.in_err-move_watch-in-Some.ensures.kept (owned-of _ _ _ c.requires.visiting.propagator));
+      refused = refused-any _ _ (owned-same _ _ _ c.in_err-move_watch-in-Some.ensures.kept (owned-of _ _ _ c.requires.visiting.propagator));
       justified = c.requires.justified;
       extends = extends-same c.args.trail.now;
       size = refl;

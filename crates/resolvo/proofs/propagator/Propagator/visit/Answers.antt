@@ -13,7 +13,7 @@ returns c =
     record {
       conflict = tt;
       head = ap (λ n. n + 1) c.watchers.invariant.head;
-      propagator =     visited _ _ _ _ _ c.watchers.invariant.visiting (omega (arith, c.watchers-test.false, c.count.ensures)) (λ number watching.
+      propagator = visited _ _ _ _ _ c.watchers.invariant.visiting (omega (arith, c.watchers-test.false, c.count.ensures)) (λ number watching.
           let s = watching-stands _ _ number _ c.watchers.self.watches.watched watching in
           (s.0, record { watch = s.1; is = s.2; named = s.3 }));
       attached = grind (arith, common_steps);

@@ -1,5 +1,3 @@
-use Rattle.std.proofs.Common.{arith}
-use Rattle.std.proofs.lemmas.Grind.{common_steps}
 use Rattle.std.proofs.Common.{sym}
 use Rattle.std.proofs.lemmas.Bool.{false≢true}
 use Rattle.resolvo.specs.RoundStates.{IsFound}
@@ -21,10 +19,10 @@ returns-clause-unanswered g c =
     ]
 
 pub returns-clause-is_true : goal.returns-clause-is_true
-returns-clause-is_true g c = grind (arith, common_steps)
+returns-clause-is_true g c = c.all_rounds.ensures.is_true
 
 pub returns-clause-limits : goal.returns-clause-limits
-returns-clause-limits g c = grind (arith, common_steps)
+returns-clause-limits g c = c.all_rounds.ensures.limits
 
 pub returns-in_err-all_rounds : goal.returns-in_err-all_rounds
 returns-in_err-all_rounds g c =
