@@ -1,4 +1,6 @@
-use Rattle.std.proofs.Common.{arith, ap}
+use Rattle.std.proofs.Common.{arith, ap, ◌∙◌}
+use Rattle.std.proofs.lemmas.List.{take_all}
+use Rattle.resolver_report.specs.Graphs.{links}
 use Rattle.std.specs.HashMap.{get}
 use Rattle.std.specs.Map.{lookup}
 use Rattle.resolver_report.proofs.LastInstanceLemmas.{links_next, marks_next}
@@ -16,3 +18,7 @@ loop-rule-preserved g c = record {
       (get g.N.PartialEq.eq c.loop-rule.last_instances) c.loop-rule.invariant.followed
       (get g.N.PartialEq.eq c.keep_instance.new.last_instances) (λ n. c.in_ok-keep_instance.ensures.ok n);
 }
+
+pub returns-clause-value : goal.returns-clause-value
+returns-clause-value g c =
+    c.loop-rule.invariant.linked ∙ ap (links g.N.PartialEq.eq) (take_all c.loop-rule.rule-index c.args.rules.now (omega arith))
