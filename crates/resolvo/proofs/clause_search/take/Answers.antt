@@ -5,25 +5,47 @@ use Rattle.resolvo.proofs.PropagatorLemmas.{propagator-gains}
 use Rattle.resolvo.proofs.JustifiedLemmas.{decided-forced, justified-decides}
 use Rattle.resolvo.proofs.ClauseSearchLemmas.{chosen-decides}
 use Rattle.resolvo.proofs.TurnLemmas.{decided-assumed, none-gains}
+use Rattle.resolver_clause_store.proofs.KeptLemmas.{keeps_all}
+use Rattle.resolver_clause_store.proofs.TrailLemmas.{keeps-gains}
+use Rattle.std.proofs.Common.{arith}
+use Rattle.std.proofs.lemmas.Result.{IfOk-from_err}
 use Rattle.resolvo.proofs.clause_search.take.Goals as goal
 
-pub returns-clause-justified : goal.returns-clause-justified
-returns-clause-justified c =
-    let read = rw c.clause.ensures at c.index-clause-choice.is in
-    justified-decides _ _ _ _ _ _ (λ n. decided-forced _ n) c.requires.justified c.in_ok-decide.ensures.ok
-    (value-none _ _ (ap (λ l. literal_value c.args.trail.now l) read ∙ c.requires.first.free c.index-clause-choice.result))
+pub returns : goal.returns
+returns c =
+    record {
+      justified = let read = rw c.clause.ensures at c.index-clause-choice.is in
+          justified-decides _ _ _ _ _ _ (λ n. decided-forced _ n) c.requires.justified c.in_ok-decide.ensures.ok
+          (value-none _ _ (ap (λ l. literal_value c.args.trail.now l) read ∙ c.requires.first.free c.index-clause-choice.result));
+      chosen = λ requirements choice chosen.
+          let read = rw c.clause.ensures at c.index-clause-choice.is in
+          chosen-decides _ _ _ _ c.index-clause-choice.result _ _ c.in_ok-decide.ensures.ok
+          (value-none _ _ (ap (λ l. literal_value c.args.trail.now l) read ∙ c.requires.first.free c.index-clause-choice.result)) read choice chosen;
+      size = c.in_ok-decide.ensures.ok.size;
+      fewer = omega (arith, c.in_ok-decide.ensures.ok.fewer_open);
+      kept = let read = rw c.clause.ensures at c.index-clause-choice.is in
+          keeps_all _ _ (keeps-gains _ _ _ _ _ c.in_ok-decide.ensures.ok
+          (value-none _ _ (ap (λ l. literal_value c.args.trail.now l) read ∙ c.requires.first.free c.index-clause-choice.result)));
+      assumed = none-gains _ _ _ _ _ c.in_ok-decide.ensures.ok (decided-assumed _);
+      propagator = λ propagator it.
+          let read = rw c.clause.ensures at c.index-clause-choice.is in
+          propagator-gains _ _ _ propagator _ _ _ c.in_ok-decide.ensures.ok
+          (value-none _ _ (ap (λ l. literal_value c.args.trail.now l) read ∙ c.requires.first.free c.index-clause-choice.result)) it;
+    }
 
-pub returns-clause-chosen : goal.returns-clause-chosen
-returns-clause-chosen c = λ requirements choice chosen.
-    let read = rw c.clause.ensures at c.index-clause-choice.is in
-    chosen-decides _ _ _ _ c.index-clause-choice.result _ _ c.in_ok-decide.ensures.ok
-    (value-none _ _ (ap (λ l. literal_value c.args.trail.now l) read ∙ c.requires.first.free c.index-clause-choice.result)) read choice chosen
+pub returns-in_err-decide : goal.returns-in_err-decide
+returns-in_err-decide c =
+    record {
+      justified = IfOk-from_err c.from_residual.result _ c.from_residual.ensures.0;
+      chosen = IfOk-from_err c.from_residual.result _ c.from_residual.ensures.0;
+      size = IfOk-from_err c.from_residual.result _ c.from_residual.ensures.0;
+      fewer = IfOk-from_err c.from_residual.result _ c.from_residual.ensures.0;
+      kept = IfOk-from_err c.from_residual.result _ c.from_residual.ensures.0;
+      assumed = IfOk-from_err c.from_residual.result _ c.from_residual.ensures.0;
+      propagator = IfOk-from_err c.from_residual.result _ c.from_residual.ensures.0;
+    }
 
-pub returns-clause-assumed : goal.returns-clause-assumed
-returns-clause-assumed c = none-gains _ _ _ _ _ c.in_ok-decide.ensures.ok (decided-assumed _)
-
-pub returns-clause-propagator : goal.returns-clause-propagator
-returns-clause-propagator c = λ propagator it.
+pub decide-requires-clause-free : goal.decide-requires-clause-free
+decide-requires-clause-free c =
     let read = rw c.clause.ensures at c.index-clause-choice.is in
-    propagator-gains _ _ _ propagator _ _ _ c.in_ok-decide.ensures.ok
-    (value-none _ _ (ap (λ l. literal_value c.args.trail.now l) read ∙ c.requires.first.free c.index-clause-choice.result)) it
+    value-none _ _ (ap (λ l. literal_value c.args.trail.now l) read ∙ c.requires.first.free c.index-clause-choice.result)
