@@ -1,6 +1,5 @@
 -- What the refusal of a part means for the whole.
-use Rattle.std.specs.Prelude.{Err, IfErr, IsErrAnd, Ok, Result}
-use Rattle.std.proofs.Common.{◌≡◌, ◌≤◌, ◌⊎◌, inl, inr, ⊎_elim}
+use Rattle.std.proofs.Common.{◌≤◌, ◌⊎◌, inl, inr, ⊎_elim}
 use Rattle.resolver_clause_store.specs.declared.Exhausted.{Exhausted as Shortage}
 use Rattle.resolver_clause_store.specs.declared.Exhausted.TheVariants.{Memory, Ids}
 use Rattle.resolver_clause_store.specs.declared.Interrupted.{Interrupted}

@@ -1,13 +1,11 @@
-use Rattle.std.proofs.Common.{ap, ◌∙◌}
+use Rattle.std.proofs.Common.{ap, ◌∙◌, arith}
 use Rattle.resolver_clause_store.specs.TrailView.{literal_value}
-use Rattle.resolver_clause_store.proofs.TrailLemmas.{value-none}
+use Rattle.resolver_clause_store.proofs.TrailLemmas.{value-none, keeps-gains}
 use Rattle.resolvo.proofs.PropagatorLemmas.{propagator-gains}
 use Rattle.resolvo.proofs.JustifiedLemmas.{decided-forced, justified-decides}
 use Rattle.resolvo.proofs.ClauseSearchLemmas.{chosen-decides}
 use Rattle.resolvo.proofs.TurnLemmas.{decided-assumed, none-gains}
 use Rattle.resolver_clause_store.proofs.KeptLemmas.{keeps_all}
-use Rattle.resolver_clause_store.proofs.TrailLemmas.{keeps-gains}
-use Rattle.std.proofs.Common.{arith}
 use Rattle.std.proofs.lemmas.Result.{IfOk-from_err}
 use Rattle.resolvo.proofs.clause_search.take.Goals as goal
 

@@ -2,10 +2,8 @@ use Rattle.resolvo.proofs.LoadLemmas.{finished_for, first-after, loaded-trail, p
 use Rattle.resolvo.proofs.TurnLemmas.{consistent-descended, turn-trans}
 use Rattle.resolvo.proofs.WatchedLemmas.{in_lists, owned-either}
 use Rattle.std.proofs.Common.{◌∙◌}
-use Rattle.resolver_encoding.proofs.RefusalLemmas.{shortage_at_limit}
+use Rattle.resolver_encoding.proofs.RefusalLemmas.{shortage_at_limit, IfErr-of, IfErr-stop}
 use Rattle.std.proofs.lemmas.Result.{IfOk-from_err}
-use Rattle.resolver_encoding.proofs.RefusalLemmas.{IfErr-of}
-use Rattle.resolver_encoding.proofs.RefusalLemmas.{IfErr-stop}
 use Rattle.resolvo.proofs.clause_search.ClauseSearch.run.Goals as goal
 
 pub returns-in-None : goal.returns-in-None

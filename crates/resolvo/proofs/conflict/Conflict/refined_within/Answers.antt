@@ -1,7 +1,6 @@
 use Rattle.resolvo.proofs.RefinedLemmas.{refined_explains, refined_part, refined_refuted}
 use Rattle.resolvo.specs.Conflicts.{rules_in}
 use Rattle.std.proofs.Common.{ap, length, sym, ◌∙◌}
-use Rattle.std.proofs.Common.{rules}
 use Rattle.std.proofs.lemmas.Result.{IfOk-from_err}
 use Rattle.resolver_encoding.proofs.RefusalLemmas.{IfErr-of}
 use Rattle.resolvo.proofs.conflict.Conflict.refined_within.Goals as goal

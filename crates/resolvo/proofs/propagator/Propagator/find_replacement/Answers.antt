@@ -1,11 +1,11 @@
-use Rattle.std.proofs.Common.{arith}
-use Rattle.std.proofs.lemmas.Grind.{common_steps}
-use Rattle.resolvo.proofs.VisitLemmas.{moves-stands, own-other, stands-own}
+use Rattle.std.proofs.Common.{arith, Some, false, subst, ◌≡◌, refl}
+use Rattle.std.proofs.lemmas.Option.{slice_get_within}
+use Rattle.resolver_clause_store.specs.TrailView.{literal_value}
+use Rattle.resolver_clause_store.specs.declared.Literal.{Literal}
+use Rattle.resolvo.proofs.VisitLemmas.{moves-stands, own-other, stands-own, extends-same}
 use Rattle.resolvo.proofs.TwoLiteralLemmas.{false-now, own-false}
 use Rattle.resolvo.proofs.WatchedLemmas.{owned-of, owned-same, refused-any}
-use Rattle.resolvo.proofs.VisitLemmas.{extends-same}
 use Rattle.std.proofs.lemmas.Result.{IfOk-from_err}
-use Rattle.std.proofs.Common.{refl}
 use Rattle.resolvo.proofs.propagator.Propagator.find_replacement.Goals as goal
 
 pub returns-in_ok-move_watch-in-Some : goal.returns-in_ok-move_watch-in-Some
@@ -72,3 +72,14 @@ returns-in_err-outcome-in-None c =
       open_ones = c.force_other.ensures.open_ones;
       total = c.force_other.ensures.total;
     }
+
+pub replacement-requires-clause-below : goal.replacement-requires-clause-below
+replacement-requires-clause-below c = rw c.clause-literals.ensures (c.requires.visiting.below c.args.watcher.now.number)
+
+pub move_watch-requires-clause-place : goal.move_watch-requires-clause-place
+move_watch-requires-clause-place c = slice_get_within _ c.args.watcher.now.place c.requires.stands.watch c.requires.stands.is
+
+pub move_watch-requires-clause-differ : goal.move_watch-requires-clause-differ
+move_watch-requires-clause-differ c = λ same.
+    let IsFalse : Literal → Type 0 = λ l. literal_value c.args.trail.now l ≡ Some false in
+    (rw c.clause-literals.ensures at c.in-Some.ensures).not_false (subst IsFalse same (false-now _ _ _ _ _ c.requires.visiting))

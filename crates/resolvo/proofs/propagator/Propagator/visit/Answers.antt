@@ -1,10 +1,8 @@
 use Rattle.std.proofs.lemmas.Grind.{common_steps}
-use Rattle.std.proofs.Common.{arith, ◌+◌, ◌∙◌}
-use Rattle.resolvo.proofs.VisitLemmas.{blockers-below, visited}
+use Rattle.std.proofs.Common.{arith, ◌+◌, ◌∙◌, ap}
+use Rattle.resolvo.proofs.VisitLemmas.{blockers-below, visited, extends-trans}
 use Rattle.resolver_clause_store.proofs.WatchListLemmas.{watching-stands}
-use Rattle.resolvo.proofs.VisitLemmas.{extends-trans}
 use Rattle.resolvo.proofs.WatchedLemmas.{refused-any}
-use Rattle.std.proofs.Common.{ap}
 use Rattle.std.proofs.lemmas.Result.{IfOk-from_err}
 use Rattle.resolvo.proofs.propagator.Propagator.visit.Goals as goal
 

@@ -1,10 +1,7 @@
-use Rattle.std.proofs.Common.{arith}
-use Rattle.std.proofs.lemmas.Grind.{common_steps}
-use Rattle.resolvo.proofs.VisitLemmas.{below-contains, own-other, paired}
-use Rattle.resolvo.proofs.VisitLemmas.{extends-same}
+use Rattle.std.proofs.Common.{arith, refl}
+use Rattle.resolvo.proofs.VisitLemmas.{below-contains, own-other, paired, extends-same}
 use Rattle.resolvo.proofs.WatchedLemmas.{refused-any}
 use Rattle.std.proofs.lemmas.Result.{IfOk-from_err}
-use Rattle.std.proofs.Common.{refl}
 use Rattle.resolvo.proofs.propagator.Propagator.visit_pair.Goals as goal
 
 pub is_true-requires : goal.is_true-requires

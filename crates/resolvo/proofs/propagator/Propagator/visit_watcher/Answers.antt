@@ -1,11 +1,8 @@
-use Rattle.std.proofs.Common.{arith, sym, ◌∙◌}
-use Rattle.std.proofs.lemmas.Grind.{common_steps}
+use Rattle.std.proofs.Common.{arith, sym, ◌∙◌, refl}
 use Rattle.resolver_clause_store.proofs.WatchListLemmas.{fit-at}
-use Rattle.resolvo.proofs.VisitLemmas.{below-contains, makes-true, tested-true}
-use Rattle.resolvo.proofs.VisitLemmas.{extends-same}
+use Rattle.resolvo.proofs.VisitLemmas.{below-contains, makes-true, tested-true, extends-same}
 use Rattle.resolvo.proofs.WatchedLemmas.{refused-any}
 use Rattle.std.proofs.lemmas.Result.{IfOk-from_err}
-use Rattle.std.proofs.Common.{refl}
 use Rattle.resolvo.proofs.propagator.Propagator.visit_watcher.Goals as goal
 
 pub value-value-requires : goal.value-value-requires

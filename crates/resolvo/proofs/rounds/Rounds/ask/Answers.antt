@@ -1,4 +1,4 @@
-use Rattle.std.proofs.Common.{ap, subst, sym, Contains}
+use Rattle.std.proofs.Common.{ap, subst, sym, Contains, refl}
 use Rattle.resolver_encoding.specs.Notes.{notes_in}
 use Rattle.resolver_encoding.specs.Trails.{chosen_in}
 use Rattle.resolver_encoding.specs.Turns.{AsksOnly}
@@ -8,11 +8,9 @@ use Rattle.resolvo.proofs.SoftLemmas.{asking_adds, rounds_added, standing_asked,
 use Rattle.resolver_encoding.proofs.LedReading.{led_package}
 use Rattle.resolvo.proofs.LeadingLemmas.{led_same}
 use Rattle.std.proofs.lemmas.Result.{IfOk-from_err}
-use Rattle.resolver_encoding.proofs.RefusalLemmas.{IfErr-of}
-use Rattle.resolver_encoding.proofs.RefusalLemmas.{shortage_of_memory}
+use Rattle.resolver_encoding.proofs.RefusalLemmas.{IfErr-of, shortage_of_memory}
 use Rattle.resolvo.proofs.StuckLemmas.{full_stop}
 use Rattle.resolvo.proofs.RoundLemmas.{room_trans}
-use Rattle.std.proofs.Common.{refl}
 use Rattle.resolvo.proofs.rounds.Rounds.ask.Goals as goal
 
 pub load-requires : goal.load-requires

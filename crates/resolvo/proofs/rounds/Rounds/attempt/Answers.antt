@@ -11,8 +11,7 @@ use Rattle.resolver_clause_store.specs.declared.Origin.TheVariants.{Solvable as 
 use Rattle.resolvo.specs.RoundStates.{notes_of}
 use Rattle.resolvo.proofs.RoundLemmas.{room_trans}
 use Rattle.std.proofs.lemmas.Result.{IfOk-from_err}
-use Rattle.resolver_encoding.proofs.RefusalLemmas.{IfErr-of}
-use Rattle.resolver_encoding.proofs.RefusalLemmas.{shortage_of_memory}
+use Rattle.resolver_encoding.proofs.RefusalLemmas.{IfErr-of, shortage_of_memory}
 use Rattle.resolvo.proofs.rounds.Rounds.attempt.Goals as goal
 
 -- the limits stay when a turn begins

@@ -1,5 +1,3 @@
-use Rattle.std.proofs.Common.{arith}
-use Rattle.std.proofs.lemmas.Grind.{common_steps}
 use Rattle.std.proofs.Common.{Option, subst, sym}
 use Rattle.resolvo.specs.Problems.{AreFirstItems, AreItems}
 use Rattle.std.proofs.lemmas.Result.{IfOk-from_err}

@@ -1,4 +1,4 @@
-use Rattle.std.proofs.Common.{ap, length, ◌∙◌, ◌≡◌}
+use Rattle.std.proofs.Common.{ap, length, ◌∙◌, ◌≡◌, refl}
 use Rattle.resolver_clause_store.specs.TrailView.{variable_count}
 use Rattle.resolvo.specs.ClauseSearches.{IsLoaded, trail_of}
 use Rattle.resolvo.specs.RoundStates.{chosen_of, notes_of}
@@ -6,7 +6,6 @@ use Rattle.resolvo.proofs.RoundLemmas.{given_below, given_inside, loaded_all, ro
 use Rattle.resolvo.proofs.GoingLemmas.{all_clauses, still_loaded}
 use Rattle.std.proofs.lemmas.Result.{IfOk-from_err}
 use Rattle.resolver_encoding.proofs.RefusalLemmas.{IfErr-of}
-use Rattle.std.proofs.Common.{refl}
 use Rattle.resolvo.proofs.rounds.Rounds.load.Goals as goal
 
 pub load-requires-clause-below : goal.load-requires-clause-below

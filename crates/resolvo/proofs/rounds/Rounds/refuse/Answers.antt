@@ -14,8 +14,7 @@ use Rattle.resolvo.proofs.SoftLemmas.{assumed_inside, ended_adds, refused_within
 use Rattle.resolvo.proofs.LeadingLemmas.{stays_paid}
 use Rattle.resolvo.proofs.RoundLemmas.{room_trans}
 use Rattle.std.proofs.lemmas.Result.{IfOk-from_err}
-use Rattle.resolver_encoding.proofs.RefusalLemmas.{IfErr-of}
-use Rattle.resolver_encoding.proofs.RefusalLemmas.{shortage_of_memory}
+use Rattle.resolver_encoding.proofs.RefusalLemmas.{IfErr-of, shortage_of_memory}
 use Rattle.resolvo.proofs.StuckLemmas.{full_stop}
 use Rattle.resolvo.proofs.rounds.Rounds.refuse.Goals as goal
 

@@ -1,11 +1,10 @@
-use Rattle.std.proofs.Common.{[], ◌∷◌, ◌++◌, List, arith, subst, sym}
+use Rattle.std.proofs.Common.{[], ◌∷◌, ◌++◌, List, subst, sym}
 use Rattle.std.specs.Prelude.{map}
 use Rattle.std.proofs.lemmas.List.{map-append}
 use Rattle.resolver_clause_store.specs.declared.SoftRequirement.{SoftRequirement}
 use Rattle.resolver_clause_store.specs.declared.SoftRequirement.TheVariants.{Solvable}
 use Rattle.resolvo.specs.RoundStates.{IsBetween, IsLedBy}
 use Rattle.resolvo.proofs.RoundLemmas.{room_same, room_trans}
-use Rattle.std.proofs.lemmas.Grind.{common_steps}
 use Rattle.resolvo.proofs.LeadingLemmas.{gives_all, gives_more, gives_these}
 use Rattle.std.proofs.lemmas.Result.{IfOk-from_err}
 use Rattle.resolver_encoding.proofs.RefusalLemmas.{IfErr-of}

@@ -1,10 +1,9 @@
 use Rattle.std.proofs.Common.{Bool, Contains, List, ◌⊎◌, ◌≡◌, [], ◌∷◌, ◌++◌, ◌+◌, ◌∙◌, ap, false, arith, subst, sym, take}
 use Rattle.std.proofs.lemmas.List.{take_more, take_all}
-use Rattle.std.proofs.lemmas.List.Elements.{All-contains}
+use Rattle.std.proofs.lemmas.List.Elements.{All-contains, Contains-push_cases}
 use Rattle.resolver_clause_store.proofs.SetLemmas.{Contains-item}
 use Rattle.resolvo.specs.RoundStates.{HasTurned, HaveTurned, notes_of}
 use Rattle.resolvo.proofs.RoundLemmas.{room_same, room_trans}
-use Rattle.std.proofs.lemmas.List.Elements.{Contains-push_cases}
 use Rattle.resolvo.proofs.SoftTurnLemmas.{none_tried, tried_last, tried_more}
 use Rattle.std.proofs.lemmas.Result.{IfOk-from_err}
 use Rattle.resolver_encoding.proofs.RefusalLemmas.{IfErr-of}

@@ -14,8 +14,7 @@ use Rattle.resolver_clause_store.proofs.ListLemmas.{Contains-here as here}
 use Rattle.resolvo.proofs.LeadingLemmas.{led_same, led_seed, standing_seed}
 use Rattle.resolvo.proofs.RoundLemmas.{room_trans}
 use Rattle.std.proofs.lemmas.Result.{IfOk-from_err}
-use Rattle.resolver_encoding.proofs.RefusalLemmas.{IfErr-of}
-use Rattle.resolver_encoding.proofs.RefusalLemmas.{shortage_of_memory}
+use Rattle.resolver_encoding.proofs.RefusalLemmas.{IfErr-of, shortage_of_memory}
 use Rattle.resolvo.proofs.StuckLemmas.{full_shortage}
 use Rattle.resolvo.proofs.rounds.Rounds.turn.Goals as goal
 

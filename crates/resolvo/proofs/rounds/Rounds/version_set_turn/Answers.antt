@@ -14,8 +14,7 @@ use Rattle.resolver_encoding.proofs.SoFarLemmas.{lawful_solvables}
 use Rattle.resolvo.proofs.LeadingLemmas.{led_wider}
 use Rattle.resolvo.proofs.RoundLemmas.{room_same, room_trans}
 use Rattle.std.proofs.lemmas.Result.{IfOk-from_err}
-use Rattle.resolver_encoding.proofs.RefusalLemmas.{IfErr-of}
-use Rattle.resolver_encoding.proofs.RefusalLemmas.{IfErr-stop}
+use Rattle.resolver_encoding.proofs.RefusalLemmas.{IfErr-of, IfErr-stop}
 use Rattle.resolvo.proofs.rounds.Rounds.version_set_turn.Goals as goal
 
 pub returns-then-has_any : goal.returns-then-has_any
