@@ -1,4 +1,6 @@
-use Rattle.std.proofs.Common.{rules}
+use Rattle.std.proofs.Common.{refl, rules, sym, ◌∙◌}
+use Rattle.std.proofs.lemmas.Option.{none-some}
+use Rattle.resolvo.proofs.WatchedLemmas.{in_lists-same}
 use Rattle.resolvo.proofs.clause_search.ClauseSearch.new.Goals as goal
 
 pub returns-clause-consistent : goal.returns-clause-consistent
@@ -15,3 +17,16 @@ returns-clause-consistent c = record {
   turn = search rules;
   queued = rw c.new-3.ensures.items (c.new-6.ensures c.empty.result c.new.result);
 }
+
+pub returns-clause-variables : goal.returns-clause-variables
+returns-clause-variables c = c.empty.ensures.size
+
+pub returns-clause-learnt : goal.returns-clause-learnt
+returns-clause-learnt c = refl
+
+pub returns-clause-turn : goal.returns-clause-turn
+returns-clause-turn c = record { base = refl; none = λ variable slot at reason. absurd (none-some slot (sym (c.empty.ensures.none variable) ∙ at)) }
+
+pub invariant_of-result : goal.invariant_of-result
+invariant_of-result c =
+    record { in_lists = in_lists-same c.new.result c.empty.result c.empty-2.result c.empty-2.result.watches (rw c.new.ensures (c.empty-2.ensures c.empty.result c.empty.ensures.size)) refl }
