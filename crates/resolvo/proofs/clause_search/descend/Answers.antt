@@ -23,11 +23,11 @@ returns-in-Some g c =
       propagator = c.in_ok-number.ensures.propagator;
       refused = tt;
       justified = c.in_ok-number.ensures.step.justified;
-      chosen = chosen-extends _ _ _ _ c.requires.chosen c.in_ok-number.ensures.step.extends;
+      chosen = chosen-extends c.args.table.now c.args.requirements.now c.args.trail.now c.apply_all_pending.new.trail c.requires.chosen c.in_ok-number.ensures.step.extends;
       size = c.in_ok-number.ensures.step.size;
-      kept = keeps_all _ _ (record { kept = c.in_ok-number.ensures.step.extends.kept });
-      assumed = none-extends _ _ c.in_ok-number.ensures.step.extends;
-      queued = queued-longer _ _ _ _ _ (keeps_all _ _ (record { kept = c.in_ok-number.ensures.step.extends.kept })) c.requires.queued;
+      kept = keeps_all c.args.trail.now c.apply_all_pending.new.trail (record { kept = c.in_ok-number.ensures.step.extends.kept });
+      assumed = none-extends c.args.trail.now c.apply_all_pending.new.trail c.in_ok-number.ensures.step.extends;
+      queued = queued-longer c.args.queue.now c.args.trail.now c.apply_all_pending.new.trail c.args.table.now c.args.requirements.now (keeps_all c.args.trail.now c.apply_all_pending.new.trail (record { kept = c.in_ok-number.ensures.step.extends.kept })) c.requires.queued;
       refusal = tt;
     }
 
@@ -38,11 +38,11 @@ rounds-init g c =
       propagator = first.propagator;
       attached = record { all = first.propagator.watched.attached; none = rw c.in_default.is at first.none };
       justified = first.step.justified;
-      chosen = chosen-extends _ _ _ _ c.requires.chosen first.step.extends;
+      chosen = chosen-extends c.args.table.now c.args.requirements.now c.args.trail.now c.apply_all_pending.new.trail c.requires.chosen first.step.extends;
       size = first.step.size;
-      kept = keeps_all _ _ (record { kept = first.step.extends.kept });
-      queued = queued-longer _ _ _ _ _ (keeps_all _ _ (record { kept = first.step.extends.kept })) c.requires.queued;
-      assumed = none-extends _ _ first.step.extends;
+      kept = keeps_all c.args.trail.now c.apply_all_pending.new.trail (record { kept = first.step.extends.kept });
+      queued = queued-longer c.args.queue.now c.args.trail.now c.apply_all_pending.new.trail c.args.table.now c.args.requirements.now (keeps_all c.args.trail.now c.apply_all_pending.new.trail (record { kept = first.step.extends.kept })) c.requires.queued;
+      assumed = none-extends c.args.trail.now c.apply_all_pending.new.trail first.step.extends;
     }
 
 pub returns-in-Some-2 : goal.returns-in-Some-2
@@ -54,11 +54,11 @@ returns-in-Some-2 g c =
       propagator = c.in_ok-number-2.ensures.propagator;
       refused = tt;
       justified = c.propagate.ensures.justified;
-      chosen = chosen-extends _ _ _ _ c.rounds.invariant.chosen c.propagate.ensures.extends;
+      chosen = chosen-extends c.args.table.now c.args.requirements.now c.rounds.trail c.propagate.new.trail c.rounds.invariant.chosen c.propagate.ensures.extends;
       size = c.propagate.ensures.size ∙ c.rounds.invariant.size;
-      kept = keeps_extended _ _ _ _ c.rounds.invariant.kept c.propagate.ensures.extends;
-      assumed = none-trans _ _ _ c.rounds.invariant.assumed (none-extends _ _ c.propagate.ensures.extends);
-      queued = queued-longer _ _ _ _ _ (keeps_all _ _ (record { kept = c.propagate.ensures.extends.kept })) c.rounds.invariant.queued;
+      kept = keeps_extended c.args.trail.now c.rounds.trail c.propagate.new.trail _ c.rounds.invariant.kept c.propagate.ensures.extends;
+      assumed = none-trans c.args.trail.now c.rounds.trail c.propagate.new.trail c.rounds.invariant.assumed (none-extends c.rounds.trail c.propagate.new.trail c.propagate.ensures.extends);
+      queued = queued-longer c.rounds.queue c.rounds.trail c.propagate.new.trail c.args.table.now c.args.requirements.now (keeps_all c.rounds.trail c.propagate.new.trail (record { kept = c.propagate.ensures.extends.kept })) c.rounds.invariant.queued;
       refusal = tt;
     }
 
@@ -71,16 +71,16 @@ returns-in-None g c =
       propagator = c.in_ok-number-2.ensures.propagator;
       refused = tt;
       justified = c.propagate.ensures.justified;
-      chosen = chosen-extends _ _ _ _ c.rounds.invariant.chosen c.propagate.ensures.extends;
+      chosen = chosen-extends c.args.table.now c.args.requirements.now c.rounds.trail c.propagate.new.trail c.rounds.invariant.chosen c.propagate.ensures.extends;
       size = c.propagate.ensures.size ∙ c.rounds.invariant.size;
-      kept = keeps_extended _ _ _ _ c.rounds.invariant.kept c.propagate.ensures.extends;
-      assumed = none-trans _ _ _ c.rounds.invariant.assumed (none-extends _ _ c.propagate.ensures.extends);
+      kept = keeps_extended c.args.trail.now c.rounds.trail c.propagate.new.trail _ c.rounds.invariant.kept c.propagate.ensures.extends;
+      assumed = none-trans c.args.trail.now c.rounds.trail c.propagate.new.trail c.rounds.invariant.assumed (none-extends c.rounds.trail c.propagate.new.trail c.propagate.ensures.extends);
       queued = c.in_ok-choice.ensures.queued;
       refusal = tt;
     }
 
 pub next-requires-clause-queued : goal.next-requires-clause-queued
-next-requires-clause-queued g c = queued-longer _ _ _ _ _ (keeps_all _ _ (record { kept = c.propagate.ensures.extends.kept })) c.rounds.invariant.queued
+next-requires-clause-queued g c = queued-longer c.rounds.queue c.rounds.trail c.propagate.new.trail c.args.table.now c.args.requirements.now (keeps_all c.rounds.trail c.propagate.new.trail (record { kept = c.propagate.ensures.extends.kept })) c.rounds.invariant.queued
 
 pub rounds-preserved : goal.rounds-preserved
 rounds-preserved g c =
@@ -89,11 +89,11 @@ rounds-preserved g c =
       propagator = took.propagator _ c.in_ok-number-2.ensures.propagator;
       attached = c.in_ok-number-2.ensures.attached;
       justified = took.justified;
-      chosen = took.chosen _ (rw c.in-Some-3.is at c.in_ok-choice.ensures.some) (chosen-extends _ _ _ _ c.rounds.invariant.chosen c.propagate.ensures.extends);
+      chosen = took.chosen _ (rw c.in-Some-3.is at c.in_ok-choice.ensures.some) (chosen-extends c.args.table.now c.args.requirements.now c.rounds.trail c.propagate.new.trail c.rounds.invariant.chosen c.propagate.ensures.extends);
       size = took.size ∙ c.propagate.ensures.size ∙ c.rounds.invariant.size;
-      kept = keeps_more _ _ _ _ (keeps_extended _ _ _ _ c.rounds.invariant.kept c.propagate.ensures.extends) took.kept;
-      queued = queued-longer _ _ _ _ _ took.kept c.in_ok-choice.ensures.queued;
-      assumed = none-trans _ _ _ (none-trans _ _ _ c.rounds.invariant.assumed (none-extends _ _ c.propagate.ensures.extends)) took.assumed;
+      kept = keeps_more c.args.trail.now c.propagate.new.trail c.take.new.trail _ (keeps_extended c.args.trail.now c.rounds.trail c.propagate.new.trail _ c.rounds.invariant.kept c.propagate.ensures.extends) took.kept;
+      queued = queued-longer c.next.new.self c.propagate.new.trail c.take.new.trail c.args.table.now c.args.requirements.now took.kept c.in_ok-choice.ensures.queued;
+      assumed = none-trans c.args.trail.now c.propagate.new.trail c.take.new.trail (none-trans c.args.trail.now c.rounds.trail c.propagate.new.trail c.rounds.invariant.assumed (none-extends c.rounds.trail c.propagate.new.trail c.propagate.ensures.extends)) took.assumed;
     }
 
 pub returns-in_err-check_cancel : goal.returns-in_err-check_cancel
