@@ -13,7 +13,7 @@ use Rattle.resolve.specs.declared.ids.Range.{Range}
 use Rattle.resolve.specs.declared.ids.Range.TheVariants.{All}
 use Rattle.resolve.specs.declared.ids.VersionSet.{VersionSet}
 use Rattle.resolve.specs.declared.ids.Version.{Version}
-use Rattle.resolve.specs.declared.catalog.tables.Solvable.{Solvable}
+use Rattle.resolve.specs.Solvables.{Solvable}
 use Rattle.resolve.specs.declared.catalog.tables.Package.{Package as Listing}
 use Rattle.resolve.specs.declared.catalog.Catalog.{Catalog}
 use Rattle.resolve.specs.Ranges.{range_takes, range_text}
@@ -45,7 +45,7 @@ listing_of (Some p) = record { listed = p.candidates.items; favored = p.favored;
 
 -- the needs of a solvable; a reason hides its requirements and constraints from the solver
 abbrev pub needs_with : Option StringId → Solvable → Needs
-needs_with None s = known (record { requirements = s.requirements.items; constraints = s.constraints.items })
+needs_with None s = known (record { requirements = s.requirements; constraints = s.constraints })
 needs_with (Some reason) s = unknown reason
 
 abbrev pub needs_of_solvable : Option Solvable → Needs
@@ -88,7 +88,7 @@ catalog_universe it = record {
   string_text = λ r. text_of (slice_get it.strings.keys r.0);
   merged_text = λ xs. merged_text_of it.names.keys it.packages.versions.keys xs;
   package_named = λ n. listing_of (slice_get it.packages.packages.items n.0);
-  needs = λ s. needs_of_solvable (slice_get it.packages.solvables.items s.0);
+  needs = λ s. needs_of_solvable (slice_get it.packages.solvables s.0);
   matching_of = λ xs v. taken it.packages.versions.keys (version_set_at it.version_sets.keys v).range xs;
   others_of = λ xs v. left_out it.packages.versions.keys (version_set_at it.version_sets.keys v).range xs;
   sorted_of = sorted_by (preference it.packages.versions.keys);
@@ -102,7 +102,7 @@ abbrev pub packages_in : Catalog → List Listing
 packages_in it = it.packages.packages.items
 
 abbrev pub solvables_in : Catalog → List Solvable
-solvables_in it = it.packages.solvables.items
+solvables_in it = it.packages.solvables
 
 abbrev pub versions_in : Catalog → List Version
 versions_in it = it.packages.versions.keys

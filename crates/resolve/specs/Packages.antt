@@ -7,7 +7,7 @@ use Rattle.resolve.specs.declared.ids.NameId.{NameId}
 use Rattle.resolve.specs.declared.ids.SolvableId.{SolvableId}
 use Rattle.resolve.specs.declared.ids.Version.{Version}
 use Rattle.resolve.specs.declared.catalog.tables.Package.{Package}
-use Rattle.resolve.specs.declared.catalog.tables.Solvable.{Solvable}
+use Rattle.resolve.specs.Solvables.{Solvable, with_constraint, with_requirement}
 use Rattle.resolver_clause_store.specs.declared.ids.VersionSetId.{VersionSetId}
 use Rattle.resolver_clause_store.specs.declared.ids.StringId.{StringId}
 use Rattle.resolver_clause_store.specs.declared.data.ConditionalRequirement.{ConditionalRequirement}
@@ -106,22 +106,14 @@ pub record IsLocked (versions : List Version) (packages packages' : List Package
 -- one requirement of the solvable was added; nothing else changed
 pub record IsRequired (solvables solvables' : List Solvable) (s : SolvableId) (requirement : ConditionalRequirement) : Type 0 where
   pub before : Solvable
-  pub after : Solvable
   pub stood : slice_get solvables s.0 ≡ Some before
-  pub written : solvables' ≡ slice_set solvables s.0 after
-  pub requirements : after.requirements.items ≡ before.requirements.items ++ requirement ∷ []
-  pub constraints : after.constraints ≡ before.constraints
-  pub reason : after.unknown ≡ before.unknown
+  pub written : solvables' ≡ slice_set solvables s.0 (with_requirement before requirement)
 
 -- one constraint of the solvable was added; nothing else changed
 pub record IsConstrained (solvables solvables' : List Solvable) (s : SolvableId) (version_set : VersionSetId) : Type 0 where
   pub before : Solvable
-  pub after : Solvable
   pub stood : slice_get solvables s.0 ≡ Some before
-  pub written : solvables' ≡ slice_set solvables s.0 after
-  pub constraints : after.constraints.items ≡ before.constraints.items ++ version_set ∷ []
-  pub requirements : after.requirements ≡ before.requirements
-  pub reason : after.unknown ≡ before.unknown
+  pub written : solvables' ≡ slice_set solvables s.0 (with_constraint before version_set)
 
 -- the dependencies of the solvable are now unknown for this reason, and were known before; nothing else changed
 pub record IsMadeUnknown (solvables solvables' : List Solvable) (s : SolvableId) (reason : StringId) : Type 0 where

@@ -4,7 +4,9 @@ ghost use Rattle.std.specs.Prelude.{◌≡◌, ◌<◌, IfErr, IfNone, IfOk, IfS
 ghost use Rattle.resolve.specs.Additions.{IsInterned, IsShortage};
 ghost use Rattle.resolve.specs.Packages.{KeepsPackages, version_at};
 
+mod links;
 mod provider;
+mod solvables;
 mod tables;
 #[cfg(test)]
 mod tests;

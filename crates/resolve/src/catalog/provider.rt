@@ -156,17 +156,19 @@ impl DependencyProvider for Catalog {
     }
 
     fn get_dependencies(&self, solvable: SolvableId) -> Result<Dependencies, Exhausted> {
-        let Some(found) = self.packages.solvables.get(solvable.0 as usize) else {
+        let solvables = &self.packages.solvables;
+        let place = solvable.0 as usize;
+        if place >= solvables.len() {
             return Ok(Dependencies::Known(KnownDependencies {
                 requirements: Vec::new(self.alloc),
                 constrains: Vec::new(self.alloc),
             }));
-        };
-        if let Some(reason) = found.unknown {
+        }
+        if let Some(reason) = solvables.unknown(place) {
             return Ok(Dependencies::Unknown(reason));
         }
-        let requirements = found.requirements.clone()?;
-        let constrains = found.constraints.clone()?;
+        let requirements = solvables.requirements(self.alloc, place)?;
+        let constrains = solvables.constraints(self.alloc, place)?;
         Ok(Dependencies::Known(KnownDependencies {
             requirements,
             constrains,

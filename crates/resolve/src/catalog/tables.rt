@@ -9,6 +9,7 @@ ghost use Rattle.resolve.specs.Packages.{IsWithoutPackage, KeepsPackages, name_a
 ghost use Rattle.resolve.specs.Sorting.{sorted_by};
 ghost use Rattle.resolve.specs.Conditions.{ArePartsLower, IsJoined, IsPartMissing, condition_at};
 
+use super::solvables::Solvables;
 use crate::ids::{NameId, SolvableId, Version, id_of};
 use indexmap::IndexSet;
 use resolver_clause_store::{
@@ -17,15 +18,6 @@ use resolver_clause_store::{
 };
 use std::alloc::Global;
 use std::cmp::Ordering;
-
-/// The requirements and constraints of a version, and the reason for which they are unknown, if there is one.
-#[derive(Drop)]
-pub struct Solvable {
-    pub requirements: Vec<ConditionalRequirement>,
-    pub constraints: Vec<VersionSetId>,
-    pub unknown: Option<StringId>,
-    pub is_excluded: bool,
-}
 
 /// A package with its versions in the order of declaration.
 #[derive(Drop)]
@@ -41,7 +33,7 @@ pub struct Package {
 pub struct PackageTable {
     pub packages: Vec<Package>,
     pub versions: IndexSet<Version>,
-    pub solvables: Vec<Solvable>,
+    pub solvables: Solvables,
     ghost lawful: { ArePackagesOf versions.keys packages.items } by { Prim.hlevel props },
 }
 
@@ -50,12 +42,12 @@ impl PackageTable {
     pub fn new(alloc: Global) -> PackageTable
         ensures packages { result.packages.items ≡ [] }
         ensures versions { result.versions.keys ≡ [] }
-        ensures solvables { result.solvables.items ≡ [] }
+        ensures solvables { result.solvables ≡ [] }
     {
         PackageTable {
             packages: Vec::new(alloc),
             versions: IndexSet::new(alloc),
-            solvables: Vec::new(alloc),
+            solvables: Solvables::new(alloc),
         }
     }
 
@@ -98,7 +90,7 @@ impl PackageTable {
     pub fn add_package(&mut self, alloc: Global) -> Result<(), Exhausted>
         ensures added { OnOk result (IsPackageAdded self.old.packages.items self.new.packages.items) }
         ensures packages { KeepsPackages self.old.packages.items self.new.packages.items }
-        ensures kept { (self.new.versions.keys ≡ self.old.versions.keys) × (self.new.solvables.items ≡ self.old.solvables.items) }
+        ensures kept { (self.new.versions.keys ≡ self.old.versions.keys) × (self.new.solvables ≡ self.old.solvables) }
         ensures memory { IfErr result (λ e. e ≡ Exhausted.Memory) }
     {
         self.packages.push(Package {
@@ -113,12 +105,7 @@ impl PackageTable {
     /// Declares a version of a package, and lists it as the package's last candidate.
     ///
     /// Returns `false` if it was declared before, or if there is no such package.
-    pub fn add_version(
-        &mut self,
-        alloc: Global,
-        name: NameId,
-        number: u32,
-    ) -> Result<bool, Exhausted>
+    pub fn add_version(&mut self, name: NameId, number: u32) -> Result<bool, Exhausted>
         ensures declared { IfOk result (λ is_new.
             MatchBool is_new (IsDeclared self.old.versions.keys self.new.versions.keys self.old.packages.items self.new.packages.items
             (record { name = name; number = number }))
@@ -133,12 +120,7 @@ impl PackageTable {
         }
         let id = SolvableId(id_of(self.versions.len())?);
         self.packages[package].candidates.reserve(1)?;
-        self.solvables.push(Solvable {
-            requirements: Vec::new(alloc),
-            constraints: Vec::new(alloc),
-            unknown: None,
-            is_excluded: false,
-        })?;
+        self.solvables.add()?;
         self.versions.insert(version)?;
         self.packages[package].candidates.push(id)?;
         Ok(true)
@@ -150,9 +132,9 @@ impl PackageTable {
         solvable: SolvableId,
         requirement: ConditionalRequirement,
     ) -> Result<(), Exhausted>
-        ensures added { OnOk result (solvable.0 < length self.old.solvables.items →
-            IsRequired self.old.solvables.items self.new.solvables.items solvable requirement) }
-        ensures dropped { OnOk result (length self.old.solvables.items ≤ solvable.0 → self.new.solvables.items ≡ self.old.solvables.items) }
+        ensures added { OnOk result (solvable.0 < length self.old.solvables →
+            IsRequired self.old.solvables self.new.solvables solvable requirement) }
+        ensures dropped { OnOk result (length self.old.solvables ≤ solvable.0 → self.new.solvables ≡ self.old.solvables) }
         ensures kept { (self.new.versions.keys ≡ self.old.versions.keys) × (self.new.packages.items ≡ self.old.packages.items) }
         ensures memory { IfErr result (λ e. e ≡ Exhausted.Memory) }
     {
@@ -160,7 +142,7 @@ impl PackageTable {
         if place >= self.solvables.len() {
             return Ok(());
         }
-        self.solvables[place].requirements.push(requirement)?;
+        self.solvables.require(place, requirement)?;
         Ok(())
     }
 
@@ -170,9 +152,9 @@ impl PackageTable {
         solvable: SolvableId,
         constraint: VersionSetId,
     ) -> Result<(), Exhausted>
-        ensures added { OnOk result (solvable.0 < length self.old.solvables.items →
-            IsConstrained self.old.solvables.items self.new.solvables.items solvable constraint) }
-        ensures dropped { OnOk result (length self.old.solvables.items ≤ solvable.0 → self.new.solvables.items ≡ self.old.solvables.items) }
+        ensures added { OnOk result (solvable.0 < length self.old.solvables →
+            IsConstrained self.old.solvables self.new.solvables solvable constraint) }
+        ensures dropped { OnOk result (length self.old.solvables ≤ solvable.0 → self.new.solvables ≡ self.old.solvables) }
         ensures kept { (self.new.versions.keys ≡ self.old.versions.keys) × (self.new.packages.items ≡ self.old.packages.items) }
         ensures memory { IfErr result (λ e. e ≡ Exhausted.Memory) }
     {
@@ -180,7 +162,7 @@ impl PackageTable {
         if place >= self.solvables.len() {
             return Ok(());
         }
-        self.solvables[place].constraints.push(constraint)?;
+        self.solvables.constrain(place, constraint)?;
         Ok(())
     }
 
@@ -189,15 +171,15 @@ impl PackageTable {
     /// Its requirements and constraints are then hidden from the solver. Returns `false` if it has a reason already, or
     /// if there is no such solvable.
     pub fn set_unknown(&mut self, solvable: SolvableId, reason: StringId) -> bool
-        ensures unknown { MatchBool result (IsMadeUnknown self.old.solvables.items self.new.solvables.items solvable reason)
-            (IsReasonRefused self.old.solvables.items self.new.solvables.items solvable) }
+        ensures unknown { MatchBool result (IsMadeUnknown self.old.solvables self.new.solvables solvable reason)
+            (IsReasonRefused self.old.solvables self.new.solvables solvable) }
         ensures kept { (self.new.versions.keys ≡ self.old.versions.keys) × (self.new.packages.items ≡ self.old.packages.items) }
     {
         let place = solvable.0 as usize;
-        if place >= self.solvables.len() || self.solvables[place].unknown.is_some() {
+        if place >= self.solvables.len() || self.solvables.unknown(place).is_some() {
             return false;
         }
-        self.solvables[place].unknown = Some(reason);
+        self.solvables.set_unknown(place, reason);
         true
     }
 
@@ -219,7 +201,7 @@ impl PackageTable {
     pub fn favor(&mut self, solvable: SolvableId) -> bool
         ensures favored { MatchBool result (IsFavored self.old.versions.keys self.old.packages.items self.new.packages.items solvable)
             (IsFavorRefused self.old.versions.keys self.old.packages.items self.new.packages.items solvable) }
-        ensures kept { (self.new.versions.keys ≡ self.old.versions.keys) × (self.new.solvables.items ≡ self.old.solvables.items) }
+        ensures kept { (self.new.versions.keys ≡ self.old.versions.keys) × (self.new.solvables ≡ self.old.solvables) }
     {
         let Some(place) = self.package_place(solvable) else {
             return false;
@@ -235,7 +217,7 @@ impl PackageTable {
     pub fn lock(&mut self, solvable: SolvableId) -> bool
         ensures locked { MatchBool result (IsLocked self.old.versions.keys self.old.packages.items self.new.packages.items solvable)
             (IsLockRefused self.old.versions.keys self.old.packages.items self.new.packages.items solvable) }
-        ensures kept { (self.new.versions.keys ≡ self.old.versions.keys) × (self.new.solvables.items ≡ self.old.solvables.items) }
+        ensures kept { (self.new.versions.keys ≡ self.old.versions.keys) × (self.new.solvables ≡ self.old.solvables) }
     {
         let Some(place) = self.package_place(solvable) else {
             return false;
@@ -250,9 +232,9 @@ impl PackageTable {
     /// Excludes a solvable for a reason. Returns `false` if it is excluded already, or does not exist.
     pub fn exclude(&mut self, solvable: SolvableId, reason: StringId) -> Result<bool, Exhausted>
         ensures excluded { IfOk result (λ is_new.
-            MatchBool is_new (IsExcluded self.old.versions.keys self.old.solvables.items self.new.solvables.items self.old.packages.items
+            MatchBool is_new (IsExcluded self.old.versions.keys self.old.solvables self.new.solvables self.old.packages.items
             self.new.packages.items solvable reason)
-            (IsExclusionRefused self.old.versions.keys self.old.solvables.items self.new.solvables.items self.old.packages.items self.new.packages.items
+            (IsExclusionRefused self.old.versions.keys self.old.solvables self.new.solvables self.old.packages.items self.new.packages.items
             solvable)) }
         ensures kept { self.new.versions.keys ≡ self.old.versions.keys }
         ensures memory { IfErr result (λ e. e ≡ Exhausted.Memory) }
@@ -261,11 +243,11 @@ impl PackageTable {
             return Ok(false);
         };
         let place = solvable.0 as usize;
-        if place >= self.solvables.len() || self.solvables[place].is_excluded {
+        if place >= self.solvables.len() || self.solvables.is_excluded(place) {
             return Ok(false);
         }
         self.packages[package].excluded.push((solvable, reason))?;
-        self.solvables[place].is_excluded = true;
+        self.solvables.exclude(place);
         Ok(true)
     }
 }

@@ -48,7 +48,7 @@ invariant_of-self-2 c =
     c.index_mut-2.ensures.value before in
     record {
       lawful = ArePackagesOf-set _ _ _ _ (ArePackagesOf-kept _ _ (IsKept-inserted _ _ _ _ c.in_ok-insert.ensures.keys) _ before)
-          (IsPackageOf-declared _ _ _ (record { 0 = c.in_ok-id_of.field-0 }) _ _ _ added at c.push-2.ensures.items refl refl refl g);
+          (IsPackageOf-declared _ _ _ (record { 0 = c.in_ok-id_of.field-0 }) _ _ _ added at c.push.ensures.items refl refl refl g);
     }
 
 pub returns-clause-declared : goal.returns-clause-declared
@@ -61,7 +61,7 @@ returns-clause-declared c =
       name = c.args.name;
       number = c.args.number;
     }) c.index_mut.result.now _ c.index_mut-2.result.now _ c.in_ok-id_of.field-0 added within c.index_mut.ensures.value
-    c.reserve.ensures.items c.index_mut-2.ensures.value at c.in_ok-push-2.ensures.items
+    c.reserve.ensures.items c.index_mut-2.ensures.value at c.in_ok-push.ensures.items
 
 pub returns-then-package-len-clause-declared : goal.returns-then-package-len-clause-declared
 returns-then-package-len-clause-declared c = record {

@@ -1,6 +1,7 @@
-use Rattle.std.proofs.Common.{ℕ, ◌<◌, ap, ◌∙◌, sym, refl, length, set, arith}
+use Rattle.std.proofs.Common.{ℕ, ◌<◌, ap, ◌∙◌, sym, refl, length, get_or, set, arith}
 use Rattle.std.specs.Prelude.{slice_get}
-use Rattle.std.proofs.lemmas.Option.{slice_get_read}
+use Rattle.std.proofs.lemmas.Option.{slice_get-get_or, slice_get_read}
+use Rattle.resolve.specs.Solvables.{no_needs}
 use Rattle.resolve.specs.Packages.{IsVersionOf}
 use Rattle.resolve.proofs.PackageLemmas.{ArePackagesOf-set, IsPackageOf-at, All-pushed}
 use Rattle.resolve.proofs.catalog.tables.PackageTable.exclude.Goals as goal
@@ -39,16 +40,12 @@ invariant_of-self-2 c =
 
 pub returns-clause-excluded : goal.returns-clause-excluded
 returns-clause-excluded c =
-    let within : c.args.solvable.0 < length c.args.self.now.solvables.items = omega arith in
-    let read = slice_get_read c.args.self.now.solvables.items
-    (length c.args.self.now.solvables.items) c.args.solvable.0 c.index.result.now refl within c.index.ensures in
-    let stood = slice_get_read c.args.self.now.solvables.items
-    (length c.args.self.now.solvables.items) c.args.solvable.0 c.index_mut-2.result.now refl within c.index_mut-2.ensures.value in
+    let within : c.args.solvable.0 < length c.args.self.now.solvables = omega arith in
     record {
-      before = c.index_mut-2.result.now;
-      stood = stood;
-      included = cc (c.if-index.false, stood, read);
-      marked = refl;
+      before = get_or c.args.self.now.solvables c.args.solvable.0 no_needs;
+      stood = slice_get-get_or c.args.self.now.solvables c.args.solvable.0 no_needs within;
+      included = cc (c.if-is_excluded.false, c.is_excluded.ensures);
+      marked = c.exclude.ensures;
       package_before = c.index_mut.result.now;
       package_after = record c.index_mut.result.now { excluded = c.push.new.self };
       package_stood = ap (λ (n : ℕ). slice_get c.args.self.now.packages.items n) c.in-Some.ensures.version.named ∙
