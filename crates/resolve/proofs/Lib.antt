@@ -10,3 +10,4 @@ pub mod VersionLemmas
 pub mod FirstChoiceExamples
 pub mod LinkLemmas
 pub mod SolvableLemmas
+pub mod RangeLemmas
