@@ -11,3 +11,4 @@ pub mod FirstChoiceExamples
 pub mod LinkLemmas
 pub mod SolvableLemmas
 pub mod RangeLemmas
+pub mod ListingLemmas

@@ -18,3 +18,4 @@ pub mod TestTexts
 pub mod NotingProvider
 pub mod Links
 pub mod Solvables
+pub mod Listings

@@ -141,15 +141,17 @@ impl DependencyProvider for Catalog {
     ghost lawful_packages = { catalog_packages_lawful };
 
     fn get_candidates(&self, name: NameId) -> Result<Option<Candidates<SolvableId>>, Exhausted> {
-        let Some(package) = self.packages.packages.get(name.0 as usize) else {
+        let packages = &self.packages.packages;
+        let place = name.0 as usize;
+        if place >= packages.len() {
             return Ok(None);
-        };
-        let candidates = package.candidates.clone()?;
-        let excluded = package.excluded.clone()?;
+        }
+        let candidates = packages.candidates(self.alloc, place)?;
+        let excluded = packages.excluded(self.alloc, place)?;
         Ok(Some(Candidates {
             candidates,
-            favored: package.favored,
-            locked: package.locked,
+            favored: packages.favored(place),
+            locked: packages.locked(place),
             hint_dependencies_available: HintDependenciesAvailable::None,
             excluded,
         }))

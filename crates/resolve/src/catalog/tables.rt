@@ -9,6 +9,7 @@ ghost use Rattle.resolve.specs.Packages.{IsWithoutPackage, KeepsPackages, name_a
 ghost use Rattle.resolve.specs.Sorting.{sorted_by};
 ghost use Rattle.resolve.specs.Conditions.{ArePartsLower, IsJoined, IsPartMissing, condition_at};
 
+use super::packages::Packages;
 use super::solvables::Solvables;
 use crate::ids::{NameId, SolvableId, Version, id_of};
 use indexmap::IndexSet;
@@ -19,33 +20,24 @@ use resolver_clause_store::{
 use std::alloc::Global;
 use std::cmp::Ordering;
 
-/// A package with its versions in the order of declaration.
-#[derive(Drop)]
-pub struct Package {
-    pub candidates: Vec<SolvableId>,
-    pub favored: Option<SolvableId>,
-    pub locked: Option<SolvableId>,
-    pub excluded: Vec<(SolvableId, StringId)>,
-}
-
 /// All packages and all their versions, with a solvable at the place of each version.
 #[derive(Drop)]
 pub struct PackageTable {
-    pub packages: Vec<Package>,
+    pub packages: Packages,
     pub versions: IndexSet<Version>,
     pub solvables: Solvables,
-    ghost lawful: { ArePackagesOf versions.keys packages.items } by { Prim.hlevel props },
+    ghost lawful: { ArePackagesOf versions.keys packages } by { Prim.hlevel props },
 }
 
 impl PackageTable {
     /// Returns a table without packages.
     pub fn new(alloc: Global) -> PackageTable
-        ensures packages { result.packages.items ≡ [] }
+        ensures packages { result.packages ≡ [] }
         ensures versions { result.versions.keys ≡ [] }
         ensures solvables { result.solvables ≡ [] }
     {
         PackageTable {
-            packages: Vec::new(alloc),
+            packages: Packages::new(alloc),
             versions: IndexSet::new(alloc),
             solvables: Solvables::new(alloc),
         }
@@ -87,18 +79,13 @@ impl PackageTable {
     }
 
     /// Adds a package without versions.
-    pub fn add_package(&mut self, alloc: Global) -> Result<(), Exhausted>
-        ensures added { OnOk result (IsPackageAdded self.old.packages.items self.new.packages.items) }
-        ensures packages { KeepsPackages self.old.packages.items self.new.packages.items }
+    pub fn add_package(&mut self) -> Result<(), Exhausted>
+        ensures added { OnOk result (IsPackageAdded self.old.packages self.new.packages) }
+        ensures packages { KeepsPackages self.old.packages self.new.packages }
         ensures kept { (self.new.versions.keys ≡ self.old.versions.keys) × (self.new.solvables ≡ self.old.solvables) }
         ensures memory { IfErr result (λ e. e ≡ Exhausted.Memory) }
     {
-        self.packages.push(Package {
-            candidates: Vec::new(alloc),
-            favored: None,
-            locked: None,
-            excluded: Vec::new(alloc),
-        })?;
+        self.packages.add()?;
         Ok(())
     }
 
@@ -107,9 +94,9 @@ impl PackageTable {
     /// Returns `false` if it was declared before, or if there is no such package.
     pub fn add_version(&mut self, name: NameId, number: u32) -> Result<bool, Exhausted>
         ensures declared { IfOk result (λ is_new.
-            MatchBool is_new (IsDeclared self.old.versions.keys self.new.versions.keys self.old.packages.items self.new.packages.items
+            MatchBool is_new (IsDeclared self.old.versions.keys self.new.versions.keys self.old.packages self.new.packages
             (record { name = name; number = number }))
-            (IsDeclarationRefused self.old.versions.keys self.new.versions.keys self.old.packages.items self.new.packages.items
+            (IsDeclarationRefused self.old.versions.keys self.new.versions.keys self.old.packages self.new.packages
             (record { name = name; number = number }))) }
         ensures refusal { IfErr result (IsShortage (length self.old.versions.keys)) }
     {
@@ -119,10 +106,9 @@ impl PackageTable {
             return Ok(false);
         }
         let id = SolvableId(id_of(self.versions.len())?);
-        self.packages[package].candidates.reserve(1)?;
         self.solvables.add()?;
         self.versions.insert(version)?;
-        self.packages[package].candidates.push(id)?;
+        self.packages.list(package, id)?;
         Ok(true)
     }
 
@@ -135,7 +121,7 @@ impl PackageTable {
         ensures added { OnOk result (solvable.0 < length self.old.solvables →
             IsRequired self.old.solvables self.new.solvables solvable requirement) }
         ensures dropped { OnOk result (length self.old.solvables ≤ solvable.0 → self.new.solvables ≡ self.old.solvables) }
-        ensures kept { (self.new.versions.keys ≡ self.old.versions.keys) × (self.new.packages.items ≡ self.old.packages.items) }
+        ensures kept { (self.new.versions.keys ≡ self.old.versions.keys) × (self.new.packages ≡ self.old.packages) }
         ensures memory { IfErr result (λ e. e ≡ Exhausted.Memory) }
     {
         let place = solvable.0 as usize;
@@ -155,7 +141,7 @@ impl PackageTable {
         ensures added { OnOk result (solvable.0 < length self.old.solvables →
             IsConstrained self.old.solvables self.new.solvables solvable constraint) }
         ensures dropped { OnOk result (length self.old.solvables ≤ solvable.0 → self.new.solvables ≡ self.old.solvables) }
-        ensures kept { (self.new.versions.keys ≡ self.old.versions.keys) × (self.new.packages.items ≡ self.old.packages.items) }
+        ensures kept { (self.new.versions.keys ≡ self.old.versions.keys) × (self.new.packages ≡ self.old.packages) }
         ensures memory { IfErr result (λ e. e ≡ Exhausted.Memory) }
     {
         let place = solvable.0 as usize;
@@ -173,7 +159,7 @@ impl PackageTable {
     pub fn set_unknown(&mut self, solvable: SolvableId, reason: StringId) -> bool
         ensures unknown { MatchBool result (IsMadeUnknown self.old.solvables self.new.solvables solvable reason)
             (IsReasonRefused self.old.solvables self.new.solvables solvable) }
-        ensures kept { (self.new.versions.keys ≡ self.old.versions.keys) × (self.new.packages.items ≡ self.old.packages.items) }
+        ensures kept { (self.new.versions.keys ≡ self.old.versions.keys) × (self.new.packages ≡ self.old.packages) }
     {
         let place = solvable.0 as usize;
         if place >= self.solvables.len() || self.solvables.unknown(place).is_some() {
@@ -185,9 +171,9 @@ impl PackageTable {
 
     /// Returns the place of a solvable's package, if both are in the table.
     fn package_place(&self, solvable: SolvableId) -> Option<usize>
-        ensures within { IfSome result (λ place. place < length self.now.packages.items) }
+        ensures within { IfSome result (λ place. place < length self.now.packages) }
         ensures version { IfSome result (λ place. IsVersionOf self.now.versions.keys place solvable) }
-        ensures absent { IfNone result (IsWithoutPackage self.now.versions.keys self.now.packages.items solvable) }
+        ensures absent { IfNone result (IsWithoutPackage self.now.versions.keys self.now.packages solvable) }
     {
         let version = self.versions.get_index(solvable.0 as usize)?;
         let package = version.name.0 as usize;
@@ -199,42 +185,42 @@ impl PackageTable {
 
     /// Favors a solvable. Returns `false` if its package has a favored solvable already, or does not exist.
     pub fn favor(&mut self, solvable: SolvableId) -> bool
-        ensures favored { MatchBool result (IsFavored self.old.versions.keys self.old.packages.items self.new.packages.items solvable)
-            (IsFavorRefused self.old.versions.keys self.old.packages.items self.new.packages.items solvable) }
+        ensures favored { MatchBool result (IsFavored self.old.versions.keys self.old.packages self.new.packages solvable)
+            (IsFavorRefused self.old.versions.keys self.old.packages self.new.packages solvable) }
         ensures kept { (self.new.versions.keys ≡ self.old.versions.keys) × (self.new.solvables ≡ self.old.solvables) }
     {
         let Some(place) = self.package_place(solvable) else {
             return false;
         };
-        if self.packages[place].favored.is_some() {
+        if self.packages.favored(place).is_some() {
             return false;
         }
-        self.packages[place].favored = Some(solvable);
+        self.packages.favor(place, solvable);
         true
     }
 
     /// Locks the package of a solvable to it. Returns `false` if the package is locked already, or does not exist.
     pub fn lock(&mut self, solvable: SolvableId) -> bool
-        ensures locked { MatchBool result (IsLocked self.old.versions.keys self.old.packages.items self.new.packages.items solvable)
-            (IsLockRefused self.old.versions.keys self.old.packages.items self.new.packages.items solvable) }
+        ensures locked { MatchBool result (IsLocked self.old.versions.keys self.old.packages self.new.packages solvable)
+            (IsLockRefused self.old.versions.keys self.old.packages self.new.packages solvable) }
         ensures kept { (self.new.versions.keys ≡ self.old.versions.keys) × (self.new.solvables ≡ self.old.solvables) }
     {
         let Some(place) = self.package_place(solvable) else {
             return false;
         };
-        if self.packages[place].locked.is_some() {
+        if self.packages.locked(place).is_some() {
             return false;
         }
-        self.packages[place].locked = Some(solvable);
+        self.packages.lock(place, solvable);
         true
     }
 
     /// Excludes a solvable for a reason. Returns `false` if it is excluded already, or does not exist.
     pub fn exclude(&mut self, solvable: SolvableId, reason: StringId) -> Result<bool, Exhausted>
         ensures excluded { IfOk result (λ is_new.
-            MatchBool is_new (IsExcluded self.old.versions.keys self.old.solvables self.new.solvables self.old.packages.items
-            self.new.packages.items solvable reason)
-            (IsExclusionRefused self.old.versions.keys self.old.solvables self.new.solvables self.old.packages.items self.new.packages.items
+            MatchBool is_new (IsExcluded self.old.versions.keys self.old.solvables self.new.solvables self.old.packages
+            self.new.packages solvable reason)
+            (IsExclusionRefused self.old.versions.keys self.old.solvables self.new.solvables self.old.packages self.new.packages
             solvable)) }
         ensures kept { self.new.versions.keys ≡ self.old.versions.keys }
         ensures memory { IfErr result (λ e. e ≡ Exhausted.Memory) }
@@ -246,7 +232,7 @@ impl PackageTable {
         if place >= self.solvables.len() || self.solvables.is_excluded(place) {
             return Ok(false);
         }
-        self.packages[package].excluded.push((solvable, reason))?;
+        self.packages.exclude(package, solvable, reason)?;
         self.solvables.exclude(place);
         Ok(true)
     }
