@@ -71,7 +71,8 @@ read_list : {T : Type 0} (lists : List (List T)) (links : List (Link T)) (n : �
     link ≡ get_or links n link → LeadBack 0 links → n < length links → up_to lists (suc n) ≡ up_to lists link.before ++ link.item ∷ []
 read_list lists links n link view is back within =
     let place : n ≡ 0 + n = omega arith in
-    rw (← view) (ap (λ k. up_to (lists_after [] links) (suc k)) place ∙ at_link [] links n link back within ∙ sym (ap (λ l. up_to (lists_after [] links) l.before ++ l.item ∷ []) is))
+    rw (← view) (ap (λ k. up_to (lists_after [] links) (suc k)) place ∙ at_link [] links n link back within ∙
+    sym (ap (λ l. up_to (lists_after [] links) l.before ++ l.item ∷ []) is))
 
 -- one link further back
 pub step_back : {T : Type 0} (lists : List (List T)) (links : List (Link T)) (n : ℕ) (link : Link T) (whole old new : List T) →
