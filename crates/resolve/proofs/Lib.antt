@@ -8,3 +8,7 @@ pub mod WordLemmas
 pub mod TableLemmas
 pub mod VersionLemmas
 pub mod FirstChoiceExamples
+pub mod LinkLemmas
+pub mod SolvableLemmas
+pub mod RangeLemmas
+pub mod ListingLemmas

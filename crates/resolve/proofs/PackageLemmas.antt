@@ -1,13 +1,13 @@
 -- The effect of a push to a table and of a write to one; packages stay lawful.
 use Rattle.std.proofs.Common.{◌≡◌, ◌≢◌, ℕ, zero, suc, ◌<◌, ◌≤◌, Bool, true, false, cond, List, [], ◌∷◌, ◌++◌, length, get_or, refl, arith, sym, ◌∙◌, subst, inl}
-use Rattle.std.proofs.Common.{inr, ⊎_elim, ◌⊎◌, Some, ap, set, length-append, length-set}
-use Rattle.std.specs.Prelude.{Option, slice_get, All, AllPairs, IfSome}
-use Rattle.std.proofs.lemmas.Option.{same_Some, IfSome_then, slice_get_read}
+use Rattle.std.proofs.Common.{inr, ⊎_elim, ◌⊎◌, Some, ap, set, length-append}
+use Rattle.std.specs.Prelude.{Option, Result, Ok, Err, OnOk, OnErr, slice_get, All, AllPairs, IfSome}
+use Rattle.std.proofs.lemmas.Option.{same_Some, IfSome_then, slice_get-get_or}
 use Rattle.std.proofs.lemmas.List.Elements.{All-weaker, All-push}
 use Rattle.std.proofs.lemmas.List.Quantifiers.{all_pairs_push}
 use Rattle.resolve.specs.declared.ids.SolvableId.{SolvableId}
 use Rattle.resolve.specs.declared.ids.Version.{Version}
-use Rattle.resolve.specs.declared.catalog.tables.Package.{Package}
+use Rattle.resolve.specs.Listings.{Package, no_versions, with_candidate}
 use Rattle.resolve.specs.Packages.{candidates_of, IsDeclared, name_of, IsVersionOf, IsPackageOf, ArePackagesOf}
 use Rattle.resolver_clause_store.proofs.ListLemmas.{slice_get-append_left, slice_get-last}
 use Rattle.resolver_clause_store.proofs.PlaceLemmas.{place_cases}
@@ -72,10 +72,6 @@ ArePackagesOf-set xs ps i q h new =
     let R : ℕ → Type 0 = λ k. IsPackageOf xs k p in let S : Package → Type 0 = λ r. IsPackageOf xs i r in subst R (sym here.0) (subst S here.1 new))
     (slice_get-set_cases ps i q n p at)
 
-pub IsPackageOf-at : (xs : List Version) (ps : List Package) (i : ℕ) (p : Package) → i < length ps → p ≡ get_or ps i p → ArePackagesOf xs ps →
-    IsPackageOf xs i p
-IsPackageOf-at xs ps i p within read h = h i p (slice_get_read ps (length ps) i p refl within read)
-
 -- the version that was pushed last is a version of its package
 pub IsVersionOf-end : (xs ys : List Version) (y : Version) (s : SolvableId) → ys ≡ xs ++ y ∷ [] → s.0 ≡ length xs → IsVersionOf ys y.name.0 s
 IsVersionOf-end xs ys y s e at = record {
@@ -108,24 +104,9 @@ pub IsKept-inserted : (b : Bool) (xs ys : List Version) (y : Version) → ys ≡
 IsKept-inserted true xs ys y e = let Q : List Version → Type 0 = λ zs. IsKept xs zs in subst Q (sym e) (IsKept-refl xs)
 IsKept-inserted false xs ys y e = let Q : List Version → Type 0 = λ zs. IsKept xs zs in subst Q (sym e) (IsKept-push xs y)
 
--- a package of which only the room changed
-pub IsPackageOf-same : (xs : List Version) (n : ℕ) (p q : Package) → q.candidates.items ≡ p.candidates.items → q.favored ≡ p.favored → q.locked ≡ p.locked →
-    q.excluded ≡ p.excluded → IsPackageOf xs n p → IsPackageOf xs n q
-IsPackageOf-same xs n p q listed favored locked excluded h =
-    let L : List SolvableId → Type 0 = λ cs. All (IsVersionOf xs n) cs in
-    let R : List SolvableId → Type 0 = λ cs. AllPairs (λ a b. a.0 < b.0) cs in
-    let O : Option SolvableId → Type 0 = λ o. IfSome o (IsVersionOf xs n) in
-    record {
-      listed = subst L (sym listed) h.listed;
-      rising = subst R (sym listed) h.rising;
-      favored = subst O (sym favored) h.favored;
-      locked = subst O (sym locked) h.locked;
-      excluded = rw excluded h.excluded;
-    }
-
 -- a package after a version of it was declared, and listed or not
 pub IsPackageOf-declared : (xs ys : List Version) (y : Version) (s : SolvableId) (b : Bool) (p q : Package) → ys ≡ xs ++ y ∷ [] → s.0 ≡ length xs →
-    q.candidates.items ≡ cond b (p.candidates.items ++ s ∷ []) p.candidates.items → q.favored ≡ p.favored → q.locked ≡ p.locked → q.excluded ≡ p.excluded →
+    q.candidates ≡ cond b (p.candidates ++ s ∷ []) p.candidates → q.favored ≡ p.favored → q.locked ≡ p.locked → q.excluded ≡ p.excluded →
     IsPackageOf xs y.name.0 p → IsPackageOf ys y.name.0 q
 IsPackageOf-declared xs ys y s b p q e at listed favored locked excluded h =
     let Q : List Version → Type 0 = λ zs. IsKept xs zs in
@@ -133,8 +114,8 @@ IsPackageOf-declared xs ys y s b p q e at listed favored locked excluded h =
     let O : Option SolvableId → Type 0 = λ o. IfSome o (IsVersionOf ys y.name.0) in
     let g : IsPackageOf ys y.name.0 p = IsPackageOf-kept xs ys kept y.name.0 p h in
     record {
-      listed = listed_more xs ys y s b p.candidates.items q.candidates.items e at listed h.listed;
-      rising = rising_more xs y.name.0 s b p.candidates.items q.candidates.items at listed h.listed h.rising;
+      listed = listed_more xs ys y s b p.candidates q.candidates e at listed h.listed;
+      rising = rising_more xs y.name.0 s b p.candidates q.candidates at listed h.listed h.rising;
       favored = subst O (sym favored) g.favored;
       locked = subst O (sym locked) g.locked;
       excluded = rw excluded g.excluded;
@@ -143,10 +124,6 @@ IsPackageOf-declared xs ys y s b p q e at listed favored locked excluded h =
 pub new_last : (b : Bool) (xs ys : List Version) (y : Version) → b ≡ false → ys ≡ cond b xs (xs ++ y ∷ []) → ys ≡ xs ++ y ∷ []
 new_last true xs ys y e f = absurd cc
 new_last false xs ys y e f = f
-
-pub IsPackageOf-at_set : (xs : List Version) (ps : List Package) (i : ℕ) (q p : Package) → i < length ps → p ≡ get_or (set ps i q) i p →
-    ArePackagesOf xs (set ps i q) → IsPackageOf xs i p
-IsPackageOf-at_set xs ps i q p within read h = IsPackageOf-at xs (set ps i q) i p (omega (arith, length-set ps i q)) read h
 
 slice_get-set_same : {X : Type 0} (xs : List X) (i : ℕ) (y : X) → i < length xs → slice_get (set xs i y) i ≡ Some y
 slice_get-set_same [] i y h = absurd (omega arith)
@@ -160,27 +137,27 @@ slice_get-set_other (x ∷ xs) zero y (suc k) h = refl
 slice_get-set_other (x ∷ xs) (suc i) y zero h = refl
 slice_get-set_other (x ∷ xs) (suc i) y (suc k) h = slice_get-set_other xs i y k (λ e. h (ap suc e))
 
--- the table after the room of the package and then its candidates were written
-pub IsDeclared-written : (vs ws : List Version) (ps : List Package) (v : Version) (p q r s : Package) (id : ℕ) → ws ≡ vs ++ v ∷ [] → v.name.0 < length ps →
-    p ≡ get_or ps v.name.0 p → q.candidates.items ≡ p.candidates.items → r ≡ get_or (set ps v.name.0 q) v.name.0 r → id ≡ length vs →
-    s.candidates.items ≡ r.candidates.items ++ record { 0 = id } ∷ [] → IsDeclared vs ws ps (set (set ps v.name.0 q) v.name.0 s) v
-IsDeclared-written vs ws ps v p q r s id added within read room again at pushed =
-    let first : slice_get ps v.name.0 ≡ Some p = slice_get_read ps (length ps) v.name.0 p refl within read in
-    let inside : v.name.0 < length (set ps v.name.0 q) = omega (arith, length-set ps v.name.0 q) in
-    let second : slice_get (set ps v.name.0 q) v.name.0 ≡ Some r =
-    slice_get_read (set ps v.name.0 q) (length (set ps v.name.0 q)) v.name.0 r refl inside again in
-    let same : q ≡ r = same_Some q r (sym (slice_get-set_same ps v.name.0 q within) ∙ second) in
-    let cs : r.candidates.items ≡ p.candidates.items = ap (λ (x : Package). x.candidates.items) (sym same) ∙ room in
-    let third : slice_get (set (set ps v.name.0 q) v.name.0 s) v.name.0 ≡ Some s = slice_get-set_same (set ps v.name.0 q) v.name.0 s inside in
+-- the table after a version was listed
+pub IsDeclared-listed : (vs ws : List Version) (ps qs : List Package) (v : Version) (id : ℕ) → ws ≡ vs ++ v ∷ [] → v.name.0 < length ps →
+    id ≡ length vs → qs ≡ set ps v.name.0 (with_candidate (get_or ps v.name.0 no_versions) (record { 0 = id })) → IsDeclared vs ws ps qs v
+IsDeclared-listed vs ws ps qs v id added within at written =
+    let new : Package = with_candidate (get_or ps v.name.0 no_versions) (record { 0 = id }) in
+    let now : slice_get qs v.name.0 ≡ Some new = ap (λ (rs : List Package). slice_get rs v.name.0) written ∙ slice_get-set_same ps v.name.0 new within in
+    let before : slice_get ps v.name.0 ≡ Some (get_or ps v.name.0 no_versions) = slice_get-get_or ps v.name.0 no_versions within in
     record {
       last = added;
-      listed = ap candidates_of third ∙
-          (pushed ∙ (ap (λ (xs : List SolvableId). xs ++ record { 0 = id } ∷ []) (cs ∙ sym (ap candidates_of first)) ∙
-          ap (λ (k : ℕ). candidates_of (slice_get ps v.name.0) ++ record { 0 = k } ∷ []) at));
-      others = λ n other. slice_get-set_other (set ps v.name.0 q) v.name.0 s n other ∙ slice_get-set_other ps v.name.0 q n other;
+      listed = ap candidates_of now ∙ ap (λ (k : ℕ). (get_or ps v.name.0 no_versions).candidates ++ record { 0 = k } ∷ []) at ∙
+          ap (λ (xs : List SolvableId). xs ++ record { 0 = length vs } ∷ []) (sym (ap candidates_of before));
+      others = λ n other. ap (λ (rs : List Package). slice_get rs n) written ∙ slice_get-set_other ps v.name.0 new n other;
     }
 
--- two reads of one place give the same value
-pub same_read : {X : Type 0} (xs : List X) (i : ℕ) (x y : X) → i < length xs → x ≡ get_or xs i x → y ≡ get_or xs i y → x ≡ y
-same_read xs i x y within e f = let first : slice_get xs i ≡ Some x = slice_get_read xs (length xs) i x refl within e in
-    let second : slice_get xs i ≡ Some y = slice_get_read xs (length xs) i y refl within f in cc
+-- packages after a call that may be refused
+pub ArePackagesOf-tried : {X E : Type 0} (vs : List Version) (ps qs new : List Package) (result : Result X E) → OnOk result (qs ≡ new) →
+    OnErr result (qs ≡ ps) → ArePackagesOf vs ps → ArePackagesOf vs new → ArePackagesOf vs qs
+ArePackagesOf-tried vs ps qs new (Ok x) made kept before after = let Q : List Package → Type 0 = λ rs. ArePackagesOf vs rs in subst Q (sym made) after
+ArePackagesOf-tried vs ps qs new (Err e) made kept before after = let Q : List Package → Type 0 = λ rs. ArePackagesOf vs rs in subst Q (sym kept) before
+
+pub KeepsPackages-push : (ps : List Package) (q : Package) (n : ℕ) (p : Package) → slice_get ps n ≡ Some p → slice_get (ps ++ q ∷ []) n ≡ Some p
+KeepsPackages-push [] q n p e = absurd cc
+KeepsPackages-push (x ∷ ps) q zero p e = e
+KeepsPackages-push (x ∷ ps) q (suc n) p e = KeepsPackages-push ps q n p e

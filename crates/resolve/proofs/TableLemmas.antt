@@ -5,7 +5,7 @@ use Rattle.resolver_clause_store.specs.declared.data.Exhausted.TheVariants.{Memo
 use Rattle.resolve.specs.Additions.{IsShortage}
 use Rattle.resolve.specs.Catalogs.{Tables}
 use Rattle.resolve.specs.declared.ids.Version.{Version}
-use Rattle.resolve.specs.declared.catalog.tables.Solvable.{Solvable}
+use Rattle.resolve.specs.Solvables.{Solvable}
 
 pub same_versions_and_solvables : (t : Tables) (versions : List Version) (solvables : List Solvable) → versions ≡ t.versions → solvables ≡ t.solvables →
     record t { versions = versions; solvables = solvables } ≡ t

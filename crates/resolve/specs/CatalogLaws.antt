@@ -13,7 +13,7 @@ use Rattle.resolver_clause_store.specs.declared.data.Condition.TheVariants.{Bina
 use Rattle.resolve.specs.declared.ids.NameId.{NameId}
 use Rattle.resolve.specs.declared.ids.SolvableId.{SolvableId}
 use Rattle.resolve.specs.declared.ids.Version.{Version}
-use Rattle.resolve.specs.declared.catalog.tables.Package.{Package}
+use Rattle.resolve.specs.Listings.{Package}
 use Rattle.resolve.specs.declared.catalog.Catalog.{Catalog}
 use Rattle.resolve.specs.Packages.{name_at, preference, IsVersionOf, IsPackageOf}
 use Rattle.resolve.specs.Conditions.{condition_or_first}
@@ -50,17 +50,17 @@ listing_lawful it n (Some p) h =
     let solvables : List Version = it.packages.versions.keys in
     let q : IsPackageOf it.packages.versions.keys n.0 p = h p refl in
     record {
-      listed = λ s at. named_of it.packages.versions.keys n s (All-contains (IsVersionOf it.packages.versions.keys n.0) p.candidates.items s q.listed at);
+      listed = λ s at. named_of it.packages.versions.keys n s (All-contains (IsVersionOf it.packages.versions.keys n.0) p.candidates s q.listed at);
       favored = IfSome_then p.favored q.favored (named_of it.packages.versions.keys n);
       locked = IfSome_then p.locked q.locked (named_of it.packages.versions.keys n);
       excluded = All-weaker (λ e. IsVersionOf it.packages.versions.keys n.0 e.0) (λ e. name_at it.packages.versions.keys e.0 ≡ n) (λ e.
-          named_of it.packages.versions.keys n e.0) p.excluded.items q.excluded;
-      once = once_of p.candidates.items q.rising;
+          named_of it.packages.versions.keys n e.0) p.excluded q.excluded;
+      once = once_of p.candidates q.rising;
     }
 
 pub catalog_packages_lawful : (it : Catalog) → HasLawfulPackages (catalog_universe it)
 catalog_packages_lawful it = record {
-  packages = λ n. listing_lawful it n (slice_get it.packages.packages.items n.0) (λ p at. it.packages.lawful n.0 p at);
+  packages = λ n. listing_lawful it n (slice_get it.packages.packages n.0) (λ p at. it.packages.lawful n.0 p at);
   filter_splits = λ xs v. Splits-filter (takes it.packages.versions.keys (version_set_at it.version_sets.keys v).range) xs;
   sort_permutes = λ xs. IsPermutation-sorted_by (preference it.packages.versions.keys) xs;
 }

@@ -13,8 +13,8 @@ use Rattle.resolve.specs.declared.ids.Range.{Range}
 use Rattle.resolve.specs.declared.ids.Range.TheVariants.{All}
 use Rattle.resolve.specs.declared.ids.VersionSet.{VersionSet}
 use Rattle.resolve.specs.declared.ids.Version.{Version}
-use Rattle.resolve.specs.declared.catalog.tables.Solvable.{Solvable}
-use Rattle.resolve.specs.declared.catalog.tables.Package.{Package as Listing}
+use Rattle.resolve.specs.Solvables.{Solvable}
+use Rattle.resolve.specs.Listings.{Package as Listing}
 use Rattle.resolve.specs.declared.catalog.Catalog.{Catalog}
 use Rattle.resolve.specs.Ranges.{range_takes, range_text}
 use Rattle.resolve.specs.Versions.{versions_text}
@@ -41,11 +41,11 @@ text_of (Some text) = string_bytes text
 -- the record of a package; if there is none, it lists nothing
 abbrev pub listing_of : Option Listing → Package SolvableId
 listing_of None = record { listed = []; favored = None; locked = None; excluded = []; hint = hint_none }
-listing_of (Some p) = record { listed = p.candidates.items; favored = p.favored; locked = p.locked; excluded = p.excluded.items; hint = hint_none }
+listing_of (Some p) = record { listed = p.candidates; favored = p.favored; locked = p.locked; excluded = p.excluded; hint = hint_none }
 
 -- the needs of a solvable; a reason hides its requirements and constraints from the solver
 abbrev pub needs_with : Option StringId → Solvable → Needs
-needs_with None s = known (record { requirements = s.requirements.items; constraints = s.constraints.items })
+needs_with None s = known (record { requirements = s.requirements; constraints = s.constraints })
 needs_with (Some reason) s = unknown reason
 
 abbrev pub needs_of_solvable : Option Solvable → Needs
@@ -87,8 +87,8 @@ catalog_universe it = record {
   version_set_text = λ v. range_text (version_set_at it.version_sets.keys v).range;
   string_text = λ r. text_of (slice_get it.strings.keys r.0);
   merged_text = λ xs. merged_text_of it.names.keys it.packages.versions.keys xs;
-  package_named = λ n. listing_of (slice_get it.packages.packages.items n.0);
-  needs = λ s. needs_of_solvable (slice_get it.packages.solvables.items s.0);
+  package_named = λ n. listing_of (slice_get it.packages.packages n.0);
+  needs = λ s. needs_of_solvable (slice_get it.packages.solvables s.0);
   matching_of = λ xs v. taken it.packages.versions.keys (version_set_at it.version_sets.keys v).range xs;
   others_of = λ xs v. left_out it.packages.versions.keys (version_set_at it.version_sets.keys v).range xs;
   sorted_of = sorted_by (preference it.packages.versions.keys);
@@ -99,10 +99,10 @@ abbrev pub names_in : Catalog → List (List ℕ)
 names_in it = map string_bytes it.names.keys
 
 abbrev pub packages_in : Catalog → List Listing
-packages_in it = it.packages.packages.items
+packages_in it = it.packages.packages
 
 abbrev pub solvables_in : Catalog → List Solvable
-solvables_in it = it.packages.solvables.items
+solvables_in it = it.packages.solvables
 
 abbrev pub versions_in : Catalog → List Version
 versions_in it = it.packages.versions.keys

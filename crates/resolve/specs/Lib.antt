@@ -16,3 +16,6 @@ pub mod Faults
 pub mod Outcomes
 pub mod TestTexts
 pub mod NotingProvider
+pub mod Links
+pub mod Solvables
+pub mod Listings

@@ -6,8 +6,8 @@ use Rattle.std.specs.declared.cmp.Ordering.{Ordering}
 use Rattle.resolve.specs.declared.ids.NameId.{NameId}
 use Rattle.resolve.specs.declared.ids.SolvableId.{SolvableId}
 use Rattle.resolve.specs.declared.ids.Version.{Version}
-use Rattle.resolve.specs.declared.catalog.tables.Package.{Package}
-use Rattle.resolve.specs.declared.catalog.tables.Solvable.{Solvable}
+use Rattle.resolve.specs.Listings.{Package}
+use Rattle.resolve.specs.Solvables.{Solvable, with_constraint, with_requirement}
 use Rattle.resolver_clause_store.specs.declared.ids.VersionSetId.{VersionSetId}
 use Rattle.resolver_clause_store.specs.declared.ids.StringId.{StringId}
 use Rattle.resolver_clause_store.specs.declared.data.ConditionalRequirement.{ConditionalRequirement}
@@ -39,11 +39,11 @@ IsWithoutPackage versions packages s = s.0 < length versions → length packages
 -- everything that the n-th package names is one of its versions, and its candidates are listed in the order of
 -- declaration
 pub record IsPackageOf (versions : List Version) (n : ℕ) (p : Package) : Type 0 where
-  pub listed : All (IsVersionOf versions n) p.candidates.items
-  pub rising : AllPairs (λ a b. a.0 < b.0) p.candidates.items
+  pub listed : All (IsVersionOf versions n) p.candidates
+  pub rising : AllPairs (λ a b. a.0 < b.0) p.candidates
   pub favored : IfSome p.favored (IsVersionOf versions n)
   pub locked : IfSome p.locked (IsVersionOf versions n)
-  pub excluded : All (λ e. IsVersionOf versions n e.0) p.excluded.items
+  pub excluded : All (λ e. IsVersionOf versions n e.0) p.excluded
 
 abbrev pub ArePackagesOf : List Version → List Package → Type 0
 ArePackagesOf versions packages = (n : ℕ) (p : Package) → slice_get packages n ≡ Some p → IsPackageOf versions n p
@@ -55,7 +55,7 @@ preference versions = then_cmp (flip_args (on (version_at versions) nat_cmp)) (o
 -- the candidates of a package; none if there is no such package
 abbrev pub candidates_of : Option Package → List SolvableId
 candidates_of None = []
-candidates_of (Some p) = p.candidates.items
+candidates_of (Some p) = p.candidates
 
 abbrev pub candidates_at : List Package → ℕ → List SolvableId
 candidates_at packages n = candidates_of (slice_get packages n)
@@ -66,10 +66,10 @@ KeepsPackages packages packages' = (n : ℕ) (p : Package) → slice_get package
 
 -- the package has no versions
 pub record IsEmptyPackage (p : Package) : Type 0 where
-  pub candidates : p.candidates.items ≡ []
+  pub candidates : p.candidates ≡ []
   pub favored : p.favored ≡ None
   pub locked : p.locked ≡ None
-  pub excluded : p.excluded.items ≡ []
+  pub excluded : p.excluded ≡ []
 
 -- one more package was added, which has no versions
 pub record IsPackageAdded (packages packages' : List Package) : Type 0 where
@@ -106,22 +106,14 @@ pub record IsLocked (versions : List Version) (packages packages' : List Package
 -- one requirement of the solvable was added; nothing else changed
 pub record IsRequired (solvables solvables' : List Solvable) (s : SolvableId) (requirement : ConditionalRequirement) : Type 0 where
   pub before : Solvable
-  pub after : Solvable
   pub stood : slice_get solvables s.0 ≡ Some before
-  pub written : solvables' ≡ slice_set solvables s.0 after
-  pub requirements : after.requirements.items ≡ before.requirements.items ++ requirement ∷ []
-  pub constraints : after.constraints ≡ before.constraints
-  pub reason : after.unknown ≡ before.unknown
+  pub written : solvables' ≡ slice_set solvables s.0 (with_requirement before requirement)
 
 -- one constraint of the solvable was added; nothing else changed
 pub record IsConstrained (solvables solvables' : List Solvable) (s : SolvableId) (version_set : VersionSetId) : Type 0 where
   pub before : Solvable
-  pub after : Solvable
   pub stood : slice_get solvables s.0 ≡ Some before
-  pub written : solvables' ≡ slice_set solvables s.0 after
-  pub constraints : after.constraints.items ≡ before.constraints.items ++ version_set ∷ []
-  pub requirements : after.requirements ≡ before.requirements
-  pub reason : after.unknown ≡ before.unknown
+  pub written : solvables' ≡ slice_set solvables s.0 (with_constraint before version_set)
 
 -- the dependencies of the solvable are now unknown for this reason, and were known before; nothing else changed
 pub record IsMadeUnknown (solvables solvables' : List Solvable) (s : SolvableId) (reason : StringId) : Type 0 where
@@ -142,7 +134,7 @@ pub record IsExcluded (versions : List Version) (solvables solvables' : List Sol
   pub package_after : Package
   pub package_stood : slice_get packages (name_at versions s).0 ≡ Some package_before
   pub written : packages' ≡ slice_set packages (name_at versions s).0 package_after
-  pub excluded : package_after.excluded.items ≡ package_before.excluded.items ++ (s, reason) ∷ []
+  pub excluded : package_after.excluded ≡ package_before.excluded ++ (s, reason) ∷ []
   pub candidates : package_after.candidates ≡ package_before.candidates
   pub favored : package_after.favored ≡ package_before.favored
   pub locked : package_after.locked ≡ package_before.locked

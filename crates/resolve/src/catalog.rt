@@ -4,7 +4,10 @@ ghost use Rattle.std.specs.Prelude.{◌≡◌, ◌<◌, IfErr, IfNone, IfOk, IfS
 ghost use Rattle.resolve.specs.Additions.{IsInterned, IsShortage};
 ghost use Rattle.resolve.specs.Packages.{KeepsPackages, version_at};
 
+mod links;
+mod packages;
 mod provider;
+mod solvables;
 mod tables;
 #[cfg(test)]
 mod tests;
@@ -68,7 +71,7 @@ impl Catalog {
         if !is_new {
             return Ok(name);
         }
-        if let Err(refusal) = self.packages.add_package(self.alloc) {
+        if let Err(refusal) = self.packages.add_package() {
             self.names.pop();
             return Err(refusal);
         }

@@ -150,9 +150,7 @@ impl Request {
 
     fn declare(&mut self, solvable: SolvableText<'_>) -> Result<bool, Exhausted> {
         let name = self.catalog.name(solvable.name)?;
-        self.catalog
-            .packages
-            .add_version(self.alloc, name, solvable.version)
+        self.catalog.packages.add_version(name, solvable.version)
     }
 
     fn add_requirement(

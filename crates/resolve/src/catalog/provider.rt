@@ -141,32 +141,36 @@ impl DependencyProvider for Catalog {
     ghost lawful_packages = { catalog_packages_lawful };
 
     fn get_candidates(&self, name: NameId) -> Result<Option<Candidates<SolvableId>>, Exhausted> {
-        let Some(package) = self.packages.packages.get(name.0 as usize) else {
+        let packages = &self.packages.packages;
+        let place = name.0 as usize;
+        if place >= packages.len() {
             return Ok(None);
-        };
-        let candidates = package.candidates.clone()?;
-        let excluded = package.excluded.clone()?;
+        }
+        let candidates = packages.candidates(self.alloc, place)?;
+        let excluded = packages.excluded(self.alloc, place)?;
         Ok(Some(Candidates {
             candidates,
-            favored: package.favored,
-            locked: package.locked,
+            favored: packages.favored(place),
+            locked: packages.locked(place),
             hint_dependencies_available: HintDependenciesAvailable::None,
             excluded,
         }))
     }
 
     fn get_dependencies(&self, solvable: SolvableId) -> Result<Dependencies, Exhausted> {
-        let Some(found) = self.packages.solvables.get(solvable.0 as usize) else {
+        let solvables = &self.packages.solvables;
+        let place = solvable.0 as usize;
+        if place >= solvables.len() {
             return Ok(Dependencies::Known(KnownDependencies {
                 requirements: Vec::new(self.alloc),
                 constrains: Vec::new(self.alloc),
             }));
-        };
-        if let Some(reason) = found.unknown {
+        }
+        if let Some(reason) = solvables.unknown(place) {
             return Ok(Dependencies::Unknown(reason));
         }
-        let requirements = found.requirements.clone()?;
-        let constrains = found.constraints.clone()?;
+        let requirements = solvables.requirements(self.alloc, place)?;
+        let constrains = solvables.constraints(self.alloc, place)?;
         Ok(Dependencies::Known(KnownDependencies {
             requirements,
             constrains,

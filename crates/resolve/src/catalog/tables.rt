@@ -9,6 +9,8 @@ ghost use Rattle.resolve.specs.Packages.{IsWithoutPackage, KeepsPackages, name_a
 ghost use Rattle.resolve.specs.Sorting.{sorted_by};
 ghost use Rattle.resolve.specs.Conditions.{ArePartsLower, IsJoined, IsPartMissing, condition_at};
 
+use super::packages::Packages;
+use super::solvables::Solvables;
 use crate::ids::{NameId, SolvableId, Version, id_of};
 use indexmap::IndexSet;
 use resolver_clause_store::{
@@ -18,44 +20,26 @@ use resolver_clause_store::{
 use std::alloc::Global;
 use std::cmp::Ordering;
 
-/// The requirements and constraints of a version, and the reason for which they are unknown, if there is one.
-#[derive(Drop)]
-pub struct Solvable {
-    pub requirements: Vec<ConditionalRequirement>,
-    pub constraints: Vec<VersionSetId>,
-    pub unknown: Option<StringId>,
-    pub is_excluded: bool,
-}
-
-/// A package with its versions in the order of declaration.
-#[derive(Drop)]
-pub struct Package {
-    pub candidates: Vec<SolvableId>,
-    pub favored: Option<SolvableId>,
-    pub locked: Option<SolvableId>,
-    pub excluded: Vec<(SolvableId, StringId)>,
-}
-
 /// All packages and all their versions, with a solvable at the place of each version.
 #[derive(Drop)]
 pub struct PackageTable {
-    pub packages: Vec<Package>,
+    pub packages: Packages,
     pub versions: IndexSet<Version>,
-    pub solvables: Vec<Solvable>,
-    ghost lawful: { ArePackagesOf versions.keys packages.items } by { Prim.hlevel props },
+    pub solvables: Solvables,
+    ghost lawful: { ArePackagesOf versions.keys packages } by { Prim.hlevel props },
 }
 
 impl PackageTable {
     /// Returns a table without packages.
     pub fn new(alloc: Global) -> PackageTable
-        ensures packages { result.packages.items ≡ [] }
+        ensures packages { result.packages ≡ [] }
         ensures versions { result.versions.keys ≡ [] }
-        ensures solvables { result.solvables.items ≡ [] }
+        ensures solvables { result.solvables ≡ [] }
     {
         PackageTable {
-            packages: Vec::new(alloc),
+            packages: Packages::new(alloc),
             versions: IndexSet::new(alloc),
-            solvables: Vec::new(alloc),
+            solvables: Solvables::new(alloc),
         }
     }
 
@@ -95,34 +79,24 @@ impl PackageTable {
     }
 
     /// Adds a package without versions.
-    pub fn add_package(&mut self, alloc: Global) -> Result<(), Exhausted>
-        ensures added { OnOk result (IsPackageAdded self.old.packages.items self.new.packages.items) }
-        ensures packages { KeepsPackages self.old.packages.items self.new.packages.items }
-        ensures kept { (self.new.versions.keys ≡ self.old.versions.keys) × (self.new.solvables.items ≡ self.old.solvables.items) }
+    pub fn add_package(&mut self) -> Result<(), Exhausted>
+        ensures added { OnOk result (IsPackageAdded self.old.packages self.new.packages) }
+        ensures packages { KeepsPackages self.old.packages self.new.packages }
+        ensures kept { (self.new.versions.keys ≡ self.old.versions.keys) × (self.new.solvables ≡ self.old.solvables) }
         ensures memory { IfErr result (λ e. e ≡ Exhausted.Memory) }
     {
-        self.packages.push(Package {
-            candidates: Vec::new(alloc),
-            favored: None,
-            locked: None,
-            excluded: Vec::new(alloc),
-        })?;
+        self.packages.add()?;
         Ok(())
     }
 
     /// Declares a version of a package, and lists it as the package's last candidate.
     ///
     /// Returns `false` if it was declared before, or if there is no such package.
-    pub fn add_version(
-        &mut self,
-        alloc: Global,
-        name: NameId,
-        number: u32,
-    ) -> Result<bool, Exhausted>
+    pub fn add_version(&mut self, name: NameId, number: u32) -> Result<bool, Exhausted>
         ensures declared { IfOk result (λ is_new.
-            MatchBool is_new (IsDeclared self.old.versions.keys self.new.versions.keys self.old.packages.items self.new.packages.items
+            MatchBool is_new (IsDeclared self.old.versions.keys self.new.versions.keys self.old.packages self.new.packages
             (record { name = name; number = number }))
-            (IsDeclarationRefused self.old.versions.keys self.new.versions.keys self.old.packages.items self.new.packages.items
+            (IsDeclarationRefused self.old.versions.keys self.new.versions.keys self.old.packages self.new.packages
             (record { name = name; number = number }))) }
         ensures refusal { IfErr result (IsShortage (length self.old.versions.keys)) }
     {
@@ -132,15 +106,9 @@ impl PackageTable {
             return Ok(false);
         }
         let id = SolvableId(id_of(self.versions.len())?);
-        self.packages[package].candidates.reserve(1)?;
-        self.solvables.push(Solvable {
-            requirements: Vec::new(alloc),
-            constraints: Vec::new(alloc),
-            unknown: None,
-            is_excluded: false,
-        })?;
+        self.solvables.add()?;
         self.versions.insert(version)?;
-        self.packages[package].candidates.push(id)?;
+        self.packages.list(package, id)?;
         Ok(true)
     }
 
@@ -150,17 +118,17 @@ impl PackageTable {
         solvable: SolvableId,
         requirement: ConditionalRequirement,
     ) -> Result<(), Exhausted>
-        ensures added { OnOk result (solvable.0 < length self.old.solvables.items →
-            IsRequired self.old.solvables.items self.new.solvables.items solvable requirement) }
-        ensures dropped { OnOk result (length self.old.solvables.items ≤ solvable.0 → self.new.solvables.items ≡ self.old.solvables.items) }
-        ensures kept { (self.new.versions.keys ≡ self.old.versions.keys) × (self.new.packages.items ≡ self.old.packages.items) }
+        ensures added { OnOk result (solvable.0 < length self.old.solvables →
+            IsRequired self.old.solvables self.new.solvables solvable requirement) }
+        ensures dropped { OnOk result (length self.old.solvables ≤ solvable.0 → self.new.solvables ≡ self.old.solvables) }
+        ensures kept { (self.new.versions.keys ≡ self.old.versions.keys) × (self.new.packages ≡ self.old.packages) }
         ensures memory { IfErr result (λ e. e ≡ Exhausted.Memory) }
     {
         let place = solvable.0 as usize;
         if place >= self.solvables.len() {
             return Ok(());
         }
-        self.solvables[place].requirements.push(requirement)?;
+        self.solvables.require(place, requirement)?;
         Ok(())
     }
 
@@ -170,17 +138,17 @@ impl PackageTable {
         solvable: SolvableId,
         constraint: VersionSetId,
     ) -> Result<(), Exhausted>
-        ensures added { OnOk result (solvable.0 < length self.old.solvables.items →
-            IsConstrained self.old.solvables.items self.new.solvables.items solvable constraint) }
-        ensures dropped { OnOk result (length self.old.solvables.items ≤ solvable.0 → self.new.solvables.items ≡ self.old.solvables.items) }
-        ensures kept { (self.new.versions.keys ≡ self.old.versions.keys) × (self.new.packages.items ≡ self.old.packages.items) }
+        ensures added { OnOk result (solvable.0 < length self.old.solvables →
+            IsConstrained self.old.solvables self.new.solvables solvable constraint) }
+        ensures dropped { OnOk result (length self.old.solvables ≤ solvable.0 → self.new.solvables ≡ self.old.solvables) }
+        ensures kept { (self.new.versions.keys ≡ self.old.versions.keys) × (self.new.packages ≡ self.old.packages) }
         ensures memory { IfErr result (λ e. e ≡ Exhausted.Memory) }
     {
         let place = solvable.0 as usize;
         if place >= self.solvables.len() {
             return Ok(());
         }
-        self.solvables[place].constraints.push(constraint)?;
+        self.solvables.constrain(place, constraint)?;
         Ok(())
     }
 
@@ -189,23 +157,23 @@ impl PackageTable {
     /// Its requirements and constraints are then hidden from the solver. Returns `false` if it has a reason already, or
     /// if there is no such solvable.
     pub fn set_unknown(&mut self, solvable: SolvableId, reason: StringId) -> bool
-        ensures unknown { MatchBool result (IsMadeUnknown self.old.solvables.items self.new.solvables.items solvable reason)
-            (IsReasonRefused self.old.solvables.items self.new.solvables.items solvable) }
-        ensures kept { (self.new.versions.keys ≡ self.old.versions.keys) × (self.new.packages.items ≡ self.old.packages.items) }
+        ensures unknown { MatchBool result (IsMadeUnknown self.old.solvables self.new.solvables solvable reason)
+            (IsReasonRefused self.old.solvables self.new.solvables solvable) }
+        ensures kept { (self.new.versions.keys ≡ self.old.versions.keys) × (self.new.packages ≡ self.old.packages) }
     {
         let place = solvable.0 as usize;
-        if place >= self.solvables.len() || self.solvables[place].unknown.is_some() {
+        if place >= self.solvables.len() || self.solvables.unknown(place).is_some() {
             return false;
         }
-        self.solvables[place].unknown = Some(reason);
+        self.solvables.set_unknown(place, reason);
         true
     }
 
     /// Returns the place of a solvable's package, if both are in the table.
     fn package_place(&self, solvable: SolvableId) -> Option<usize>
-        ensures within { IfSome result (λ place. place < length self.now.packages.items) }
+        ensures within { IfSome result (λ place. place < length self.now.packages) }
         ensures version { IfSome result (λ place. IsVersionOf self.now.versions.keys place solvable) }
-        ensures absent { IfNone result (IsWithoutPackage self.now.versions.keys self.now.packages.items solvable) }
+        ensures absent { IfNone result (IsWithoutPackage self.now.versions.keys self.now.packages solvable) }
     {
         let version = self.versions.get_index(solvable.0 as usize)?;
         let package = version.name.0 as usize;
@@ -217,42 +185,42 @@ impl PackageTable {
 
     /// Favors a solvable. Returns `false` if its package has a favored solvable already, or does not exist.
     pub fn favor(&mut self, solvable: SolvableId) -> bool
-        ensures favored { MatchBool result (IsFavored self.old.versions.keys self.old.packages.items self.new.packages.items solvable)
-            (IsFavorRefused self.old.versions.keys self.old.packages.items self.new.packages.items solvable) }
-        ensures kept { (self.new.versions.keys ≡ self.old.versions.keys) × (self.new.solvables.items ≡ self.old.solvables.items) }
+        ensures favored { MatchBool result (IsFavored self.old.versions.keys self.old.packages self.new.packages solvable)
+            (IsFavorRefused self.old.versions.keys self.old.packages self.new.packages solvable) }
+        ensures kept { (self.new.versions.keys ≡ self.old.versions.keys) × (self.new.solvables ≡ self.old.solvables) }
     {
         let Some(place) = self.package_place(solvable) else {
             return false;
         };
-        if self.packages[place].favored.is_some() {
+        if self.packages.favored(place).is_some() {
             return false;
         }
-        self.packages[place].favored = Some(solvable);
+        self.packages.favor(place, solvable);
         true
     }
 
     /// Locks the package of a solvable to it. Returns `false` if the package is locked already, or does not exist.
     pub fn lock(&mut self, solvable: SolvableId) -> bool
-        ensures locked { MatchBool result (IsLocked self.old.versions.keys self.old.packages.items self.new.packages.items solvable)
-            (IsLockRefused self.old.versions.keys self.old.packages.items self.new.packages.items solvable) }
-        ensures kept { (self.new.versions.keys ≡ self.old.versions.keys) × (self.new.solvables.items ≡ self.old.solvables.items) }
+        ensures locked { MatchBool result (IsLocked self.old.versions.keys self.old.packages self.new.packages solvable)
+            (IsLockRefused self.old.versions.keys self.old.packages self.new.packages solvable) }
+        ensures kept { (self.new.versions.keys ≡ self.old.versions.keys) × (self.new.solvables ≡ self.old.solvables) }
     {
         let Some(place) = self.package_place(solvable) else {
             return false;
         };
-        if self.packages[place].locked.is_some() {
+        if self.packages.locked(place).is_some() {
             return false;
         }
-        self.packages[place].locked = Some(solvable);
+        self.packages.lock(place, solvable);
         true
     }
 
     /// Excludes a solvable for a reason. Returns `false` if it is excluded already, or does not exist.
     pub fn exclude(&mut self, solvable: SolvableId, reason: StringId) -> Result<bool, Exhausted>
         ensures excluded { IfOk result (λ is_new.
-            MatchBool is_new (IsExcluded self.old.versions.keys self.old.solvables.items self.new.solvables.items self.old.packages.items
-            self.new.packages.items solvable reason)
-            (IsExclusionRefused self.old.versions.keys self.old.solvables.items self.new.solvables.items self.old.packages.items self.new.packages.items
+            MatchBool is_new (IsExcluded self.old.versions.keys self.old.solvables self.new.solvables self.old.packages
+            self.new.packages solvable reason)
+            (IsExclusionRefused self.old.versions.keys self.old.solvables self.new.solvables self.old.packages self.new.packages
             solvable)) }
         ensures kept { self.new.versions.keys ≡ self.old.versions.keys }
         ensures memory { IfErr result (λ e. e ≡ Exhausted.Memory) }
@@ -261,11 +229,11 @@ impl PackageTable {
             return Ok(false);
         };
         let place = solvable.0 as usize;
-        if place >= self.solvables.len() || self.solvables[place].is_excluded {
+        if place >= self.solvables.len() || self.solvables.is_excluded(place) {
             return Ok(false);
         }
-        self.packages[package].excluded.push((solvable, reason))?;
-        self.solvables[place].is_excluded = true;
+        self.packages.exclude(package, solvable, reason)?;
+        self.solvables.exclude(place);
         Ok(true)
     }
 }

@@ -154,9 +154,9 @@ fn has_conditions(
     Ok(made == Some(wanted) && catalog.resolve_condition(wanted[2]) == last)
 }
 
-fn declared(catalog: &mut Catalog, alloc: Global) -> Result<[bool; 2], Exhausted> {
-    let again = catalog.packages.add_version(alloc, NameId(0), 7)?;
-    let one_more = catalog.packages.add_version(alloc, NameId(0), 8)?;
+fn declared(catalog: &mut Catalog) -> Result<[bool; 2], Exhausted> {
+    let again = catalog.packages.add_version(NameId(0), 7)?;
+    let one_more = catalog.packages.add_version(NameId(0), 8)?;
     Ok([again, one_more])
 }
 
@@ -251,7 +251,7 @@ fn is_given(catalog: &mut Catalog, alloc: Global, wanted: Wanted<'_>) -> Result<
         Wanted::VersionSets(ids) => Ok(version_sets(catalog)? == ids),
         Wanted::Unions(ids) => Ok(unions(catalog, alloc)? == ids),
         Wanted::Conditions(ids, last) => Ok(has_conditions(catalog, ids, last)?),
-        Wanted::Declared(are_new) => Ok(declared(catalog, alloc)? == are_new),
+        Wanted::Declared(are_new) => Ok(declared(catalog)? == are_new),
         Wanted::Found(text, version, found) => Ok(catalog.find_solvable(text, version) == found),
         Wanted::FavoredAndLocked(are_new, first) => chooses(catalog, are_new, first),
         Wanted::Excluded(are_new, excluded) => excludes(catalog, are_new, excluded),
@@ -260,10 +260,10 @@ fn is_given(catalog: &mut Catalog, alloc: Global, wanted: Wanted<'_>) -> Result<
     }
 }
 
-fn declare_all(catalog: &mut Catalog, alloc: Global) -> Result<(), Exhausted> {
+fn declare_all(catalog: &mut Catalog) -> Result<(), Exhausted> {
     let a = catalog.name("a")?;
     for version in [2, 10, 1, 7] {
-        catalog.packages.add_version(alloc, a, version)?;
+        catalog.packages.add_version(a, version)?;
     }
     Ok(())
 }
@@ -271,7 +271,7 @@ fn declare_all(catalog: &mut Catalog, alloc: Global) -> Result<(), Exhausted> {
 /// Returns whether a catalog gives what is expected.
 fn gives(alloc: Global, wanted: Wanted<'_>) -> Result<bool, Fail> {
     let mut catalog = Catalog::new(alloc);
-    declare_all(&mut catalog, alloc)?;
+    declare_all(&mut catalog)?;
     is_given(&mut catalog, alloc, wanted)
 }
 

@@ -1,15 +1,11 @@
-use Rattle.std.proofs.Common.{refl, length}
-use Rattle.std.proofs.lemmas.Option.{slice_get_read}
+use Rattle.std.proofs.Common.{get_or}
+use Rattle.std.proofs.lemmas.Option.{slice_get-get_or}
+use Rattle.resolve.specs.Solvables.{no_needs}
 use Rattle.resolve.proofs.catalog.tables.PackageTable.add_requirement.Goals as goal
 
 pub returns-clause-added : goal.returns-clause-added
 returns-clause-added c = λ within. record {
-  before = c.index_mut.result.now;
-  after = record c.index_mut.result.now { requirements = c.push.new.self };
-  stood = slice_get_read c.args.self.now.solvables.items
-      (length c.args.self.now.solvables.items) c.args.solvable.0 c.index_mut.result.now refl within c.index_mut.ensures.value;
-  written = refl;
-  requirements = c.in_ok-push.ensures.items;
-  constraints = refl;
-  reason = refl;
+  before = get_or c.args.self.now.solvables c.args.solvable.0 no_needs;
+  stood = slice_get-get_or c.args.self.now.solvables c.args.solvable.0 no_needs within;
+  written = c.in_ok-require.ensures.added;
 }

@@ -1,0 +1,13 @@
+use Rattle.std.proofs.Common.{List, ap, ◌∙◌}
+use Rattle.std.specs.Prelude.{slice_index_or, slice_set}
+use Rattle.resolve.specs.Solvables.{Solvable, no_needs, with_requirement}
+use Rattle.resolve.proofs.SolvableLemmas.{inside, required}
+use Rattle.resolve.proofs.catalog.solvables.Solvables.require.Goals as goal
+
+pub returns-clause-added : goal.returns-clause-added
+returns-clause-added c =
+    let within = inside _ _ _ _ _ c.self.view_is c.requires in
+    rw c.in_ok-row.ensures.added
+    (required _ _ c.self.inside.rows.items c.args.place c.index-row.result.now _ c.args.requirement c.self.invariant c.index-row.ensures within
+    c.in_ok-row.ensures.list ∙
+    ap (λ (all : List Solvable). slice_set all c.args.place (with_requirement (slice_index_or all c.args.place no_needs) c.args.requirement)) c.self.view_is)

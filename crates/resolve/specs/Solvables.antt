@@ -1,0 +1,38 @@
+-- What was declared of each version.
+use Rattle.std.specs.Prelude.{◌≤◌, ◌++◌, ◌∷◌, [], ℕ, Bool, false, List, Option, None}
+use Rattle.resolver_clause_store.specs.declared.ids.VersionSetId.{VersionSetId}
+use Rattle.resolver_clause_store.specs.declared.ids.StringId.{StringId}
+use Rattle.resolver_clause_store.specs.declared.data.ConditionalRequirement.{ConditionalRequirement}
+use Rattle.resolve.specs.Links.{up_to}
+use Rattle.resolve.specs.declared.catalog.solvables.Row.{Row}
+
+-- the requirements and constraints of a version, the reason for which they are unknown, if there is one, and whether it is excluded
+pub record Solvable : Type 0 where
+  pub requirements : List ConditionalRequirement
+  pub constraints : List VersionSetId
+  pub unknown : Option StringId
+  pub is_excluded : Bool
+
+-- a version of which nothing was declared
+abbrev pub no_needs : Solvable
+no_needs = record { requirements = []; constraints = []; unknown = None; is_excluded = false }
+
+abbrev pub with_requirement : Solvable → ConditionalRequirement → Solvable
+with_requirement s requirement = record s { requirements = s.requirements ++ requirement ∷ [] }
+
+abbrev pub with_constraint : Solvable → VersionSetId → Solvable
+with_constraint s constraint = record s { constraints = s.constraints ++ constraint ∷ [] }
+
+-- what a row says, where its lists are in these tables
+abbrev pub solvable_in : List (List ConditionalRequirement) → List (List VersionSetId) → Row → Solvable
+solvable_in requirements constraints row = record {
+  requirements = up_to requirements row.requirements;
+  constraints = up_to constraints row.constraints;
+  unknown = row.unknown;
+  is_excluded = row.is_excluded;
+}
+
+-- the lists of a row are in tables of this length
+pub record IsWithin (requirements constraints : ℕ) (row : Row) : Type 0 where
+  pub required : row.requirements ≤ requirements
+  pub constrained : row.constraints ≤ constraints
