@@ -29,5 +29,6 @@ pub mod LevelLemmas
 pub mod SettledLemmas
 pub mod WatchListLemmas
 pub mod ParkedLemmas
+pub mod ListPoolLemmas
 pub mod QueueLemmas
 pub mod ScoreLemmas

@@ -32,6 +32,8 @@ pub mod NumberedLists
 pub mod Requirers
 pub mod Queues
 pub mod Parked
+pub mod ListPools
+pub mod ListPoolsView
 pub mod Owners
 pub mod Scores
 pub mod Statements

@@ -1,16 +1,18 @@
 //! Numbered lists of numbers that only grow.
 
-ghost use Rattle.std.specs.Prelude.{◌≡◌, ◌≢◌, ◌≤◌, ◌+◌, ◌∷◌, ◌++◌, [], ℕ, OnOk, length};
+ghost use Rattle.std.specs.Prelude.{◌≡◌, ◌≢◌, ◌<◌, ◌∷◌, ◌++◌, [], ℕ, OnOk, length};
 
+use crate::pool::ListPool;
 use std::alloc::{AllocError, Global};
 
 /// A list for each number, which is empty until something is added to it.
 #[derive(Drop)]
 pub struct Lists {
-    lists: Vec<Vec<u32>>,
+    lists: ListPool<u32>,
 }
 
 impl Lists {
+    ghost use Rattle.resolver_clause_store.specs.ListPoolsView.{lists_in};
     ghost use Rattle.resolver_clause_store.specs.NumberedLists.{list_of};
 
     /// Returns empty lists.
@@ -18,19 +20,22 @@ impl Lists {
         ensures { (number : ℕ) → list_of result number ≡ [] }
     {
         Lists {
-            lists: Vec::new(alloc),
+            lists: ListPool::new(alloc),
         }
     }
 
     /// Makes room for the lists up to this number.
     fn reach(&mut self, number: usize) -> Result<(), AllocError>
         ensures same { (other : ℕ) → list_of self.new other ≡ list_of self.old other }
-        ensures enough { OnOk result (number + 1 ≤ length self.new.lists.items) }
+        ensures enough { OnOk result (number < length (lists_in self.new.lists)) }
     {
-        'lists: while self.lists.len() <= number {
-            let empty = Vec::new(*self.lists.allocator());
-            self.lists.push(empty)?;
+        if number < self.lists.len() {
+            return Ok(());
         }
+        let Some(count) = number.checked_add(1) else {
+            return Err(AllocError);
+        };
+        self.lists.grow(count)?;
         Ok(())
     }
 
@@ -38,10 +43,10 @@ impl Lists {
     pub fn at(&self, number: usize) -> &[u32]
         ensures { result.now ≡ list_of self.now number }
     {
-        match self.lists.get(number) {
-            Some(list) => list.as_slice(),
-            None => &[],
+        if number < self.lists.len() {
+            return self.lists.at(number);
         }
+        &[]
     }
 
     /// Appends an item to a list.
@@ -50,7 +55,7 @@ impl Lists {
         ensures others { OnOk result ((other : ℕ) → other ≢ number → list_of self.new other ≡ list_of self.old other) }
     {
         self.reach(number)?;
-        self.lists[number].push(item)?;
+        self.lists.push(number, item)?;
         Ok(())
     }
 }

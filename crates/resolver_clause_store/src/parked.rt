@@ -177,6 +177,7 @@ impl ParkedLists {
         requires { 0 < length (list_of self.old number) }
         ensures taken { IfOk result (λ item. list_of self.old number ≡ item ∷ list_of self.new number) }
         ensures others { OnOk result ((other : ℕ) → other ≢ number → list_of self.new other ≡ list_of self.old other) }
+        ensures unchanged { OnErr result (self.new ≡ self.old) }
     {
         let chain = self.lists[number];
         let node = self.nodes[chain.first.place as usize];
@@ -199,6 +200,7 @@ impl ParkedLists {
             MatchOption answer (list_of self.old number ≡ []) (λ item. list_of self.old number ≡ item ∷ list_of self.new number)) }
         ensures unchanged { IfOk result (λ answer. IfNone answer (self.new ≡ self.old)) }
         ensures others { OnOk result ((other : ℕ) → other ≢ number → list_of self.new other ≡ list_of self.old other) }
+        ensures kept { OnErr result (self.new ≡ self.old) }
     {
         if self.count(number) == 0 {
             return Ok(None);

@@ -1,30 +1,31 @@
 -- Solvables grouped by the names of their packages.
-use Rattle.std.specs.Prelude.{ℕ, ◌≡◌, ◌<◌, ◌⊎◌, List, [], Some, Contains, Vec, length, slice_get}
-use Rattle.std.specs.Option.{option_map_or}
-use Rattle.std.specs.declared.alloc.Global.{Global}
+use Rattle.std.specs.Prelude.{ℕ, ◌≡◌, ◌<◌, ◌⊎◌, List, [], Some, Contains, length, slice_get}
+use Rattle.resolver_clause_store.specs.ListPools.{list_of}
+use Rattle.resolver_clause_store.specs.ListPoolsView.{lists_in}
 use Rattle.resolver_clause_store.specs.Variables.{AreDistinct}
+use Rattle.resolver_clause_store.specs.declared.ListPool.{ListPool}
 use Rattle.resolver_encoding.specs.declared.groups.Groups.{Groups}
 
 -- the group at this place, empty if there is none
-abbrev pub group_at : {S : Type 0} → List (Vec S Global) → ℕ → List S
-group_at {S} groups place = option_map_or (λ (group : Vec S Global). group.items) (slice_get groups place) []
+abbrev pub group_at : {S : Type 0} → ListPool S → ℕ → List S
+group_at groups place = list_of (lists_in groups) place
 
 -- each name has one group
 pub record AreGroups {N S : Type 0} (g : Groups N S) : Type 0 where
-  pub count : length g.members.items ≡ length g.names.keys
+  pub count : length (lists_in g.members) ≡ length g.names.keys
   pub distinct : AreDistinct g.names.keys
 
 -- the solvable is in the group of the name
 pub record IsNamed {N S : Type 0} (g : Groups N S) (n : N) (s : S) : Type 0 where
   pub place : ℕ
   pub named : slice_get g.names.keys place ≡ Some n
-  pub inside : Contains (group_at g.members.items place) s
+  pub inside : Contains (group_at g.members place) s
 
 -- the solvable has this number in the group of the name
 pub record IsAt {N S : Type 0} (g : Groups N S) (n : N) (number : ℕ) (s : S) : Type 0 where
   pub place : ℕ
   pub named : slice_get g.names.keys place ≡ Some n
-  pub at : slice_get (group_at g.members.items place) number ≡ Some s
+  pub at : slice_get (group_at g.members place) number ≡ Some s
 
 -- one more solvable is in the group of the name
 pub record AddsNamed {N S : Type 0} (old new : Groups N S) (n : N) (s : S) : Type 0 where

@@ -4,19 +4,19 @@ ghost use Rattle.std.specs.Prelude.{◌≡◌, ◌≢◌, ◌<◌, ℕ, [], ◌�
 ghost use Rattle.resolver_clause_store.specs.Laws.{IsIdentity};
 
 use indexmap::IndexSet;
-use resolver_clause_store::{Exhausted, append, place_near};
+use resolver_clause_store::{Exhausted, ListPool, append, place_near};
 use std::alloc::Global;
 use std::hash::Hash;
 
 /// The solvables that were added under each name, in the order in which they were added.
 #[derive(Drop)]
 pub(crate) struct Groups<N: Copy + Eq + Hash + Drop, S: Copy + Drop> {
-    alloc: Global,
     names: IndexSet<N>,
-    members: Vec<Vec<S>>,
+    members: ListPool<S>,
 }
 
 impl<N: Copy + Eq + Hash + Drop, S: Copy + Drop> Groups<N, S> {
+    ghost use Rattle.resolver_clause_store.specs.ListPoolsView.{lists_in};
     ghost use Rattle.resolver_encoding.specs.Groups.{AddsNamed, AreGroups, IsAt, IsNamed, group_at};
 
     /// Returns no groups.
@@ -25,20 +25,19 @@ impl<N: Copy + Eq + Hash + Drop, S: Copy + Drop> Groups<N, S> {
         ensures none { (n : N) (s : S) → IsNamed result n s → ⊥ }
     {
         Groups {
-            alloc,
             names: IndexSet::new(alloc),
-            members: Vec::new(alloc),
+            members: ListPool::new(alloc),
         }
     }
 
     /// Returns the group at a place, empty if there is none.
     fn group(&self, place: usize) -> &[S]
-        ensures { result.now ≡ group_at self.now.members.items place }
+        ensures { result.now ≡ group_at self.now.members place }
     {
-        match self.members.get(place) {
-            Some(group) => group.as_slice(),
-            None => &[],
+        if place < self.members.len() {
+            return self.members.at(place);
         }
+        &[]
     }
 
     /// Returns the place of the group that was made last. The next solvable often belongs to it.
@@ -63,16 +62,16 @@ impl<N: Copy + Eq + Hash + Drop, S: Copy + Drop> Groups<N, S> {
     /// Appends a solvable to the group at a place, if there is such a group.
     fn put(&mut self, place: usize, solvable: S) -> Result<(), Exhausted>
         ensures names { self.new.names.keys ≡ self.old.names.keys }
-        ensures count { length self.new.members.items ≡ length self.old.members.items }
-        ensures others { (k : ℕ) → k ≢ place → group_at self.new.members.items k ≡ group_at self.old.members.items k }
-        ensures here { OnOk result (place < length self.old.members.items → group_at self.new.members.items place ≡ group_at self.old.members.items place ++
+        ensures count { length (lists_in self.new.members) ≡ length (lists_in self.old.members) }
+        ensures others { (k : ℕ) → k ≢ place → group_at self.new.members k ≡ group_at self.old.members k }
+        ensures here { OnOk result (place < length (lists_in self.old.members) → group_at self.new.members place ≡ group_at self.old.members place ++
             solvable ∷ []) }
         ensures memory { IfErr result (λ e. e ≡ Exhausted.Memory) }
     {
         if place >= self.members.len() {
             return Ok(());
         }
-        self.members[place].push(solvable)?;
+        self.members.push(place, solvable)?;
         Ok(())
     }
 
@@ -83,9 +82,9 @@ impl<N: Copy + Eq + Hash + Drop, S: Copy + Drop> Groups<N, S> {
         ensures added { OnOk result (AreGroups self.old → AddsNamed self.old self.new name solvable) }
         ensures memory { IfErr result (λ e. e ≡ Exhausted.Memory) }
     {
-        let mut group = Vec::new(self.alloc);
-        group.push(solvable)?;
-        self.members.push(group)?;
+        let place = self.members.len();
+        self.members.grow(place + 1)?;
+        self.members.push(place, solvable)?;
         append(&mut self.names, name)?;
         Ok(())
     }

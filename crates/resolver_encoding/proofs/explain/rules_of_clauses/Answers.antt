@@ -9,6 +9,7 @@ use Rattle.resolver_encoding.specs.Listing.{AreRulesOf, SomeOf, States}
 use Rattle.resolver_encoding.specs.Values.{kinds_at}
 use Rattle.resolver_encoding.proofs.ListingLemmas.{no_rules, rules_next}
 use Rattle.resolver_encoding.proofs.SourceLemmas.{kinds_next}
+use Rattle.resolver_encoding.proofs.RefusalLemmas.{IfErr-of}
 use Rattle.resolver_encoding.proofs.StatedLemmas.{all_listed, all_stated}
 use Rattle.resolver_encoding.proofs.explain.rules_of_clauses.Goals as goal
 
@@ -64,3 +65,7 @@ returns-clause-stated g c =
     let By : List (Rule g.row.D-NameId.Denot g.row.D-SolvableId.Denot) → Type 0 = λ list. AreRulesOf (SomeOf core says) list in
     all_stated u g.D.NameId.PartialEq.eq names same core c.in_ok-sources.sources c.in_ok-sources.ensures.are c.into_rules.result.items
     (subst By (ap (λ x. x.items) (sym c.into_rules.ensures)) all)
+
+pub returns-in_err-add_clause-clause-refusal : goal.returns-in_err-add_clause-clause-refusal
+returns-in_err-add_clause-clause-refusal g c = IfErr-of c.from_residual-in_err-add_clause.result _ _ c.from_residual-in_err-add_clause.ensures.1
+    c.in_err-add_clause.ensures.refusal
