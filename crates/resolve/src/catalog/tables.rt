@@ -92,6 +92,7 @@ impl PackageTable {
     /// Declares a version of a package, and lists it as the package's last candidate.
     ///
     /// Returns `false` if it was declared before, or if there is no such package.
+    /// An error may leave the version declared, and not listed.
     pub fn add_version(&mut self, name: NameId, number: u32) -> Result<bool, Exhausted>
         ensures declared { IfOk result (λ is_new.
             MatchBool is_new (IsDeclared self.old.versions.keys self.new.versions.keys self.old.packages self.new.packages
