@@ -30,5 +30,6 @@ pub mod SettledLemmas
 pub mod WatchListLemmas
 pub mod ParkedLemmas
 pub mod ListPoolLemmas
+pub mod LongListLemmas
 pub mod QueueLemmas
 pub mod ScoreLemmas

@@ -33,6 +33,7 @@ pub mod Requirers
 pub mod Queues
 pub mod Parked
 pub mod ListPools
+pub mod LongLists
 pub mod ListPoolsView
 pub mod Owners
 pub mod Scores

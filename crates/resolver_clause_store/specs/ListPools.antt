@@ -1,7 +1,5 @@
 -- Lists by number, most of which lie in one vector.
-use Rattle.std.specs.Prelude.{◌≡◌, ◌≢◌, ℕ, ◌+◌, ◌<◌, ◌≤◌, true, false, List, [], ◌++◌, length, take, drop, Vec, slice_get, slice_index_or, if◌then◌else◌}
-use Rattle.std.specs.Option.{option_map_or}
-use Rattle.std.specs.declared.alloc.Global.{Global}
+use Rattle.std.specs.Prelude.{◌≡◌, ◌≢◌, ℕ, ◌+◌, ◌<◌, ◌≤◌, true, false, List, [], ◌++◌, length, take, drop, slice_index_or, if◌then◌else◌}
 use Rattle.resolver_clause_store.specs.declared.pool.Home.{Home}
 
 -- a list without items and without room for any
@@ -12,17 +10,13 @@ nowhere = record { place = 0; length = 0; capacity = 0; is_long = false }
 abbrev pub home_at : List Home → ℕ → Home
 home_at homes list = slice_index_or homes list nowhere
 
--- the items of the vector with this number
-abbrev pub own_at : {T : Type 0} → List (Vec T Global) → ℕ → List T
-own_at {T} long number = option_map_or (λ (own : Vec T Global). own.items) (slice_get long number) []
-
--- the items of a list
-abbrev pub items_in : {T : Type 0} → List T → List (Vec T Global) → Home → List T
-items_in items long home = if home.is_long then own_at long home.place else take home.length (drop home.place items)
-
 -- the list with this number, empty if there is none
 abbrev pub list_of : {T : Type 0} → List (List T) → ℕ → List T
 list_of lists number = slice_index_or lists number []
+
+-- the items of a list
+abbrev pub items_in : {T : Type 0} → List T → List (List T) → Home → List T
+items_in items long home = if home.is_long then list_of long home.place else take home.length (drop home.place items)
 
 -- the lists have the same items
 pub record AreSameLists {T : Type 0} (old new : List (List T)) : Type 0 where
@@ -51,8 +45,8 @@ IsIn home place = IsWithin home.place home.capacity place
 abbrev pub IsFree : (ℕ → List ℕ) → ℕ → ℕ → ℕ → Type 0
 IsFree free capacity index place = (index < length (free capacity)) × IsWithin (slice_index_or (free capacity) index 0) capacity place
 
--- All parts lie in a vector of so many items, and none has a place of another. Each long list has one of so many vectors for itself.
-pub record AreHomes (count vectors : ℕ) (homes : List Home) (free : ℕ → List ℕ) : Type 0 where
+-- All parts lie in a vector of so many items, and none has a place of another. Each list that is long has a number of its own among so many.
+pub record AreHomes (count numbers : ℕ) (homes : List Home) (free : ℕ → List ℕ) : Type 0 where
   pub filled : (list : ℕ) → (home_at homes list).length ≤ (home_at homes list).capacity
   pub inside : (list : ℕ) → (home_at homes list).is_long ≡ false → (home_at homes list).place + (home_at homes list).capacity ≤ count
   pub apart : (list other place : ℕ) → IsIn (home_at homes list) place → IsIn (home_at homes other) place → list ≡ other
@@ -60,7 +54,7 @@ pub record AreHomes (count vectors : ℕ) (homes : List Home) (free : ℕ → Li
   pub free_apart : (capacity index list place : ℕ) → IsFree free capacity index place → IsIn (home_at homes list) place → ⊥
   pub free_once : (capacity index width position place : ℕ) → IsFree free capacity index place → IsFree free width position place →
       (capacity ≡ width) × (index ≡ position)
-  pub own : (list : ℕ) → (home_at homes list).is_long ≡ true → ((home_at homes list).place < vectors) × ((home_at homes list).capacity ≡ 0)
+  pub own : (list : ℕ) → (home_at homes list).is_long ≡ true → ((home_at homes list).place < numbers) × ((home_at homes list).capacity ≡ 0)
   pub own_apart : (list other : ℕ) → (home_at homes list).is_long ≡ true → (home_at homes other).is_long ≡ true →
       (home_at homes list).place ≡ (home_at homes other).place → list ≡ other
 

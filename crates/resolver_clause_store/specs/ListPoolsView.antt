@@ -5,4 +5,4 @@ use Rattle.resolver_clause_store.specs.declared.pool.ListPool.{ListPool}
 
 -- the items of the lists, by the numbers of the lists
 abbrev pub lists_in : {T : Type 0} → ListPool T → List (List T)
-lists_in pool = map (items_in pool.items.items pool.long.items) pool.homes.items
+lists_in pool = map (items_in pool.items.items pool.long) pool.homes.items

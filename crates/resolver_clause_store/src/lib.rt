@@ -13,6 +13,7 @@ mod kinds;
 mod laws;
 mod lists;
 mod literals;
+mod long_lists;
 mod numbers;
 mod owner;
 mod pairs;
