@@ -1,15 +1,13 @@
 -- Lists by number, most of which lie in one vector.
-use Rattle.std.proofs.Common.{◌≡◌, ◌≢◌, ℕ, zero, suc, ◌+◌, ◌<◌, ◌≤◌, ◌⊎◌, List, [], ◌∷◌, ◌++◌, length, get_or, map, set, take, drop, true, false}
+use Rattle.std.proofs.Common.{◌≡◌, ◌≢◌, ℕ, zero, suc, ◌+◌, ◌-◌, ◌<◌, ◌≤◌, ◌⊎◌, List, [], ◌∷◌, ◌++◌, length, get_or, map, set, take, drop, true, false}
 use Rattle.std.proofs.Common.{arith, inl, inr, refl, sym, ap, ◌∙◌, subst, ⊎_elim, true≢false, length-append, length-set, get_or-set_other, get_or-set_same}
-use Rattle.std.specs.Prelude.{Vec}
-use Rattle.std.specs.List.{SameBelow, SameFrom}
-use Rattle.std.specs.declared.alloc.Global.{Global}
+use Rattle.std.specs.List.{SameBelow, SameFrom, swap_remove}
 use Rattle.std.proofs.Math.ListN.{get_or-append, get_or-map}
-use Rattle.std.proofs.Math.Seq.{get_or-append_seam}
+use Rattle.std.proofs.Math.Seq.{get_or-append_seam, take-set-lt}
 use Rattle.std.proofs.lemmas.Bool.{cases_Bool, cases_eq, cases_lt, cond-false, cond-true}
-use Rattle.std.proofs.lemmas.List.{ext_get_or, get_or-drop, get_or-take, get_or_read, length-drop, length-take-le, length-map}
+use Rattle.std.proofs.lemmas.List.{drop-set-add, ext_get_or, get_or-drop, get_or_default, get_or-take, get_or_read, length-drop, length-take-le, length-map}
 use Rattle.resolver_clause_store.specs.declared.pool.Home.{Home}
-use Rattle.resolver_clause_store.specs.ListPools.{AreHomes, AreSameLists, Extends, IsFree, IsIn, IsLoose, IsWithin, PutsList, home_at, items_in, list_of, nowhere, own_at}
+use Rattle.resolver_clause_store.specs.ListPools.{AreHomes, AreSameLists, Extends, IsFree, IsIn, IsLoose, IsWithin, PutsList, home_at, items_in, list_of, nowhere}
 
 -- parts of lists
 module _ {T : Type 0} where
@@ -41,6 +39,29 @@ module _ {T : Type 0} where
   part-set xs place x start n inside outside = part-same xs (set xs place x) start start n inside (omega (arith, inside, length-set xs place x))
       (λ k d below. get_or-set_other xs place (start + k) x d (λ same. outside (omega (arith, same), omega (arith, same, below))))
 
+  -- a write into a part
+  pub part-write : (xs : List T) (start n place : ℕ) (x : T) → place < n → take n (drop start (set xs (start + place) x)) ≡ set (take n (drop start xs)) place x
+  part-write xs start n place x below = ap (λ ys. take n ys) (drop-set-add start xs place x) ∙ take-set-lt n (drop start xs) place x below
+
+  take-shorter : (xs : List T) (m n : ℕ) → m ≤ n → take m (take n xs) ≡ take m xs
+  take-shorter xs zero n below = refl
+  take-shorter xs (suc m) zero below = absurd (omega (arith, below))
+  take-shorter [] (suc m) (suc n) below = refl
+  take-shorter (x ∷ xs) (suc m) (suc n) below = ap (λ ys. x ∷ ys) (take-shorter xs m n (omega (arith, below)))
+
+  -- the last item takes the place of one
+  pub part-taken : (xs : List T) (start n place : ℕ) (last any : T) → start + n ≤ length xs → place < n → last ≡ get_or xs (start + (n - 1)) last →
+      take (n - 1) (drop start (set xs (start + place) last)) ≡ swap_remove (take n (drop start xs)) place any
+  part-taken xs start n place last any inside below is =
+      let size : length (take n (drop start xs)) ≡ n = part-length xs start n inside in
+      let end : last ≡ get_or (take n (drop start xs)) (n - 1) any =
+      is ∙ sym (part-at xs start n (n - 1) last (omega (arith, below))) ∙
+      get_or_default (take n (drop start xs)) (n - 1) last any (omega (arith, below, size)) in
+      sym (take-shorter (drop start (set xs (start + place) last)) (n - 1) n (omega arith))
+      ∙ ap (λ ys. take (n - 1) ys) (part-write xs start n place last below)
+      ∙ ap (λ y. take (n - 1) (set (take n (drop start xs)) place y)) end
+      ∙ ap (λ m. take (m - 1) (set (take n (drop start xs)) place (get_or (take n (drop start xs)) (m - 1) any))) (sym size)
+
   -- a write behind the items, which counts as one of them
   part-set_end : (xs : List T) (start n : ℕ) (x : T) → start + n < length xs →
       take (n + 1) (drop start (set xs (start + n) x)) ≡ take n (drop start xs) ++ x ∷ []
@@ -63,18 +84,15 @@ module _ {T : Type 0} where
       (get_or-append_seam (take n (drop start xs)) x [] x))))
       (cases_lt j n))
 
-  -- the vectors of long lists
-  pub own-kept : (long more : List (Vec T Global)) (number : ℕ) → number < length long → own_at (long ++ more) number ≡ own_at long number
-  own-kept (own ∷ long) more zero within = refl
-  own-kept (own ∷ long) more (suc number) within = own-kept long more number (omega (arith, within))
-  own-kept [] more number within = absurd (omega (arith, within))
+  -- the long lists
+  pub own-kept : (long more : List (List T)) (number : ℕ) → number < length long → list_of (long ++ more) number ≡ list_of long number
+  own-kept long more number within = get_or-append long more [] number within
 
-  pub own-last : (long : List (Vec T Global)) (own : Vec T Global) → own_at (long ++ own ∷ []) (length long) ≡ own.items
-  own-last [] own = refl
-  own-last (first ∷ long) own = own-last long own
+  pub own-last : (long : List (List T)) (own : List T) → list_of (long ++ own ∷ []) (length long) ≡ own
+  own-last long own = get_or-append_seam long own [] []
 
   -- the lists of a pool, one by one
-  pub lists-at : (items : List T) (long : List (Vec T Global)) (homes : List Home) (list : ℕ) →
+  pub lists-at : (items : List T) (long : List (List T)) (homes : List Home) (list : ℕ) →
       list_of (map (items_in items long) homes) list ≡ items_in items long (home_at homes list)
   lists-at items long homes list = get_or-map (items_in items long) homes list nowhere
 
@@ -361,7 +379,7 @@ homes-alike count vectors old new free same are = record {
       (ap (λ (h : Home). h.place) (sym (same list)) ∙ equal ∙ ap (λ (h : Home). h.place) (same other));
 }
 
-pub lists-alike : {T : Type 0} (items : List T) (long : List (Vec T Global)) (old new : List Home) → ((list : ℕ) → home_at new list ≡ home_at old list) →
+pub lists-alike : {T : Type 0} (items : List T) (long : List (List T)) (old new : List Home) → ((list : ℕ) → home_at new list ≡ home_at old list) →
     (list : ℕ) → list_of (map (items_in items long) new) list ≡ list_of (map (items_in items long) old) list
 lists-alike items long old new same list =
     lists-at items long new list ∙ ap (items_in items long) (same list) ∙ sym (lists-at items long old list)
@@ -376,7 +394,7 @@ read-inside count vectors homes free are list home is within =
     subst (λ (h : Home). h.is_long ≡ false → h.place + h.length ≤ count) (home-read homes list home is within)
     (items-inside count vectors homes free are list)
 
-pub fewer-homes : {T : Type 0} (items : List T) (long : List (Vec T Global)) (homes : List Home) (list : ℕ) →
+pub fewer-homes : {T : Type 0} (items : List T) (long : List (List T)) (homes : List Home) (list : ℕ) →
     list < length (map (items_in items long) homes) → list < length homes
 fewer-homes items long homes list within = omega (arith, within, length-map homes (items_in items long))
 
@@ -406,16 +424,16 @@ module _ {T : Type 0} where
       (λ (lower : start + k < end). absurd (apart (start + k) (above, omega (arith, lower, ends)) (omega arith, omega (arith, under))))
       (λ (behind : end ≤ start + k). from (start + k) d behind) (cases_lt (start + k) end)) (cases_lt (start + k) place))
 
-  in-own : (items : List T) (long : List (Vec T Global)) (home : Home) → home.is_long ≡ true → items_in items long home ≡ own_at long home.place
+  in-own : (items : List T) (long : List (List T)) (home : Home) → home.is_long ≡ true → items_in items long home ≡ list_of long home.place
   in-own items long home is = cond-true _ _ _ is
 
-  in-part : (items : List T) (long : List (Vec T Global)) (home : Home) → home.is_long ≡ false →
+  in-part : (items : List T) (long : List (List T)) (home : Home) → home.is_long ≡ false →
       items_in items long home ≡ take home.length (drop home.place items)
   in-part items long home is = cond-false _ _ _ is
 
   -- the items of a list stay where its part, or its vector, does
-  pub items-alike : (items others : List T) (long longs : List (Vec T Global)) (home : Home) →
-      (home.is_long ≡ true → own_at longs home.place ≡ own_at long home.place) →
+  pub items-alike : (items others : List T) (long longs : List (List T)) (home : Home) →
+      (home.is_long ≡ true → list_of longs home.place ≡ list_of long home.place) →
       (home.is_long ≡ false → take home.length (drop home.place others) ≡ take home.length (drop home.place items)) →
       items_in others longs home ≡ items_in items long home
   items-alike items others long longs home own part = ⊎_elim
@@ -423,7 +441,7 @@ module _ {T : Type 0} where
       (λ (is : home.is_long ≡ false). in-part others longs home is ∙ part is ∙ sym (in-part items long home is))
       (cases_Bool home.is_long)
 
-  pub same-lists : (items others : List T) (long longs : List (Vec T Global)) (old new : List Home) → length new ≡ length old →
+  pub same-lists : (items others : List T) (long longs : List (List T)) (old new : List Home) → length new ≡ length old →
       ((list : ℕ) → items_in others longs (home_at new list) ≡ items_in items long (home_at old list)) →
       AreSameLists (map (items_in items long) old) (map (items_in others longs) new)
   same-lists items others long longs old new size same = record {
@@ -437,7 +455,7 @@ module _ {T : Type 0} where
       subst (λ ys. take n (drop start ys) ≡ take n (drop start items)) (sym extends.is) (part-kept items extends.more start n inside)
 
   -- the vector of all parts grew
-  pub lists-extended : (items extended : List T) (long : List (Vec T Global)) (homes : List Home) (vectors : ℕ) (free : ℕ → List ℕ) →
+  pub lists-extended : (items extended : List T) (long : List (List T)) (homes : List Home) (vectors : ℕ) (free : ℕ → List ℕ) →
       AreHomes (length items) vectors homes free → Extends items extended → AreSameLists (map (items_in items long) homes) (map (items_in extended long) homes)
   lists-extended items extended long homes vectors free are extends = same-lists items extended long long homes homes refl
       (λ list. items-alike items extended long long (home_at homes list) (λ is. refl)
@@ -445,7 +463,7 @@ module _ {T : Type 0} where
       (items-inside (length items) vectors homes free are list short)))
 
   -- a list's items were copied to another part
-  module _ (items extended copied : List T) (long : List (Vec T Global)) (homes : List Home) (vectors : ℕ) (before free : ℕ → List ℕ) (list : ℕ) (home : Home)
+  module _ (items extended copied : List T) (long : List (List T)) (homes : List Home) (vectors : ℕ) (before free : ℕ → List ℕ) (list : ℕ) (home : Home)
       (place capacity : ℕ) (within : list < length homes) (read : home ≡ get_or homes list home)
       (is_short : (home_at homes list).is_long ≡ false) (are : AreHomes (length items) vectors homes before) (extends : Extends items extended) (loose : IsLoose (length extended) homes free place capacity)
       (wider : home.capacity < capacity) where
@@ -486,7 +504,7 @@ module _ {T : Type 0} where
         (omega arith) (λ is. absurd (true≢false (sym is))) (λ is. absurd (true≢false (sym is))) is_short)
 
   -- a list's items were copied to a vector of its own
-  module _ (items : List T) (long longs : List (Vec T Global)) (own : Vec T Global) (homes : List Home) (free : ℕ → List ℕ) (list : ℕ) (home : Home)
+  module _ (items : List T) (long longs : List (List T)) (own : List T) (homes : List Home) (free : ℕ → List ℕ) (list : ℕ) (home : Home)
       (within : list < length homes) (read : home ≡ get_or homes list home) (is_short : (home_at homes list).is_long ≡ false)
       (are : AreHomes (length items) (length long) homes free) (pushed : longs ≡ long ++ own ∷ []) where
     abbrev lengthened : Home
@@ -498,14 +516,14 @@ module _ {T : Type 0} where
     was : home_at homes list ≡ home
     was = home-read homes list home read within
 
-    own-then : (number : ℕ) → number < length long → own_at longs number ≡ own_at long number
-    own-then number below = subst (λ (ls : List (Vec T Global)). own_at ls number ≡ own_at long number) (sym pushed) (own-kept long (own ∷ []) number below)
+    own-then : (number : ℕ) → number < length long → list_of longs number ≡ list_of long number
+    own-then number below = subst (λ (ls : List (List T)). list_of ls number ≡ list_of long number) (sym pushed) (own-kept long (own ∷ []) number below)
 
-    pub lengthened-lists : own.items ≡ take home.length (drop home.place items) →
+    pub lengthened-lists : own ≡ take home.length (drop home.place items) →
         AreSameLists (map (items_in items long) homes) (map (items_in items longs) (set homes list lengthened))
     lengthened-lists copied = same-lists items items long longs homes (set homes list lengthened) (length-set homes list lengthened)
         (each-home homes list lengthened within (λ n h. items_in items longs h ≡ items_in items long (home_at homes n))
-        (subst (λ (ls : List (Vec T Global)). own_at ls (length long) ≡ own.items) (sym pushed) (own-last long own) ∙ copied ∙
+        (subst (λ (ls : List (List T)). list_of ls (length long) ≡ own) (sym pushed) (own-last long own) ∙ copied ∙
         sym (in-part items long home (subst (λ (h : Home). h.is_long ≡ false) was is_short)) ∙ ap (items_in items long) (sym was))
         (λ n differ. items-alike items items long longs (home_at homes n) (λ is. own-then (home_at homes n).place (are.own n is).0) (λ is. refl)))
 
@@ -556,7 +574,7 @@ module _ (count vectors : ℕ) (homes : List Home) (free : ℕ → List ℕ) (li
   }
 
 module _ {T : Type 0} where
-  puts-list : (items others : List T) (long longs : List (Vec T Global)) (old new : List Home) (list : ℕ) (f : List T → List T) → length new ≡ length old →
+  puts-list : (items others : List T) (long longs : List (List T)) (old new : List Home) (list : ℕ) (f : List T → List T) → length new ≡ length old →
       items_in others longs (home_at new list) ≡ f (items_in items long (home_at old list)) →
       ((n : ℕ) → n ≢ list → items_in others longs (home_at new n) ≡ items_in items long (home_at old n)) →
       PutsList (map (items_in items long) old) (map (items_in others longs) new) list (f (list_of (map (items_in items long) old) list))
@@ -567,17 +585,17 @@ module _ {T : Type 0} where
   }
 
   -- a long list changes
-  module _ (items : List T) (long longs : List (Vec T Global)) (homes : List Home) (free : ℕ → List ℕ) (list count : ℕ) (home : Home)
+  module _ (items : List T) (long longs : List (List T)) (homes : List Home) (free : ℕ → List ℕ) (list count : ℕ) (home : Home)
       (within : list < length homes) (read : home ≡ get_or homes list home) (is_long : home.is_long ≡ true)
       (are : AreHomes count (length long) homes free) where
     long-at : home_at homes list ≡ home
     long-at = home-read homes list home read within
 
-    long-items : (ls : List (Vec T Global)) → items_in items ls (home_at homes list) ≡ own_at ls home.place
+    long-items : (ls : List (List T)) → items_in items ls (home_at homes list) ≡ list_of ls home.place
     long-items ls = ap (items_in items ls) long-at ∙ in-own items ls home is_long
 
-    pub own-puts : (f : List T → List T) → own_at longs home.place ≡ f (own_at long home.place) →
-        ((other : ℕ) → other ≢ home.place → own_at longs other ≡ own_at long other) →
+    pub own-puts : (f : List T → List T) → list_of longs home.place ≡ f (list_of long home.place) →
+        ((other : ℕ) → other ≢ home.place → list_of longs other ≡ list_of long other) →
         PutsList (map (items_in items long) homes) (map (items_in items longs) homes) list (f (list_of (map (items_in items long) homes) list))
     own-puts f here others = puts-list items items long longs homes homes list f refl (long-items longs ∙ here ∙ ap f (sym (long-items long)))
         (λ n differ. items-alike items items long longs (home_at homes n)
@@ -586,7 +604,7 @@ module _ {T : Type 0} where
         (λ is. refl))
 
   -- a short list changes
-  module _ (items : List T) (long : List (Vec T Global)) (homes : List Home) (free : ℕ → List ℕ) (list vectors : ℕ) (home : Home)
+  module _ (items : List T) (long : List (List T)) (homes : List Home) (free : ℕ → List ℕ) (list vectors : ℕ) (home : Home)
       (within : list < length homes) (read : home ≡ get_or homes list home) (is_short : home.is_long ≡ false)
       (are : AreHomes (length items) vectors homes free) where
     short-at : home_at homes list ≡ home
@@ -600,6 +618,9 @@ module _ {T : Type 0} where
 
     short-inside : home.place + home.capacity ≤ length items
     short-inside = subst (λ (h : Home). h.place + h.capacity ≤ length items) short-at (are.inside list short-home)
+
+    short-filled : home.length ≤ home.capacity
+    short-filled = subst (λ (h : Home). h.length ≤ h.capacity) short-at (are.filled list)
 
     -- a write into its part leaves the others
     write-others : (place : ℕ) (x : T) → place < home.capacity → (n : ℕ) → n ≢ list →
@@ -616,6 +637,43 @@ module _ {T : Type 0} where
     pub resized-homes : (n : ℕ) → n ≤ home.capacity → AreHomes (length items) vectors (set homes list (resized n)) free
     resized-homes n fits = homes-resized (length items) vectors homes free list (resized n) within are (ap (λ (h : Home). h.place) (sym short-at))
         (ap (λ (h : Home). h.capacity) (sym short-at)) refl short-home fits
+
+    pub short-place : (place : ℕ) → place < length (list_of (map (items_in items long) homes) list) → place < home.length
+    short-place place below = omega (arith, below, ap (λ (xs : List T). length xs) (lists-at items long homes list ∙ short-items),
+        part-length items home.place home.length (omega (arith, short-filled, short-inside)))
+
+    pub last-inside : (place : ℕ) → place < home.length → home.place + (home.length - 1) < length items
+    last-inside place below = omega (arith, below, short-filled, short-inside)
+
+    -- an item is replaced
+    pub set-homes : (place : ℕ) (x : T) → AreHomes (length (set items (home.place + place) x)) vectors homes free
+    set-homes place x = subst (λ n. AreHomes n vectors homes free) (sym (length-set items (home.place + place) x)) are
+
+    pub set-puts : (place : ℕ) (x : T) → place < home.length →
+        PutsList (map (items_in items long) homes) (map (items_in (set items (home.place + place) x) long) homes) list
+        (set (list_of (map (items_in items long) homes) list) place x)
+    set-puts place x below = puts-list items (set items (home.place + place) x) long long homes homes list (λ xs. set xs place x) refl
+        (ap (items_in (set items (home.place + place) x) long) short-at ∙ in-part (set items (home.place + place) x) long home is_short ∙
+        part-write items home.place home.length place x below ∙ ap (λ xs. set xs place x) (sym short-items))
+        (λ n differ. write-others place x (omega (arith, below, short-filled)) n differ)
+
+    -- an item is removed
+    pub take-homes : (place : ℕ) (x : T) → AreHomes (length (set items (home.place + place) x)) vectors (set homes list (resized (home.length - 1))) free
+    take-homes place x = subst (λ n. AreHomes n vectors (set homes list (resized (home.length - 1))) free) (sym (length-set items (home.place + place) x))
+        (resized-homes (home.length - 1) (omega (arith, short-filled)))
+
+    pub take-puts : (place : ℕ) (last any : T) → place < home.length → last ≡ get_or items (home.place + (home.length - 1)) last →
+        PutsList (map (items_in items long) homes)
+        (map (items_in (set items (home.place + place) last) long) (set homes list (resized (home.length - 1)))) list
+        (swap_remove (list_of (map (items_in items long) homes) list) place any)
+    take-puts place last any below is =
+        puts-list items (set items (home.place + place) last) long long homes (set homes list (resized (home.length - 1))) list
+        (λ xs. swap_remove xs place any) (length-set homes list (resized (home.length - 1)))
+        (ap (items_in (set items (home.place + place) last) long) (home-here homes list (resized (home.length - 1)) within) ∙
+        part-taken items home.place home.length place last any (omega (arith, short-filled, short-inside)) below is ∙
+        ap (λ xs. swap_remove xs place any) (sym short-items))
+        (λ n differ. ap (items_in (set items (home.place + place) last) long) (home-other homes list (resized (home.length - 1)) within n differ) ∙
+        write-others place last (omega (arith, below, short-filled)) n differ)
 
     pub push-homes : (x : T) → home.length < home.capacity →
         AreHomes (length (set items (home.place + home.length) x)) vectors (set homes list (resized (home.length + 1))) free

@@ -1,41 +1,32 @@
 -- The lists of watches: the number of times that a clause is in a list, and the effect of writing a list.
 use Rattle.std.proofs.Common.{◌≡◌, ◌≢◌, ℕ, ◌+◌, ◌-◌, ◌*◌, ◌<◌, ◌≤◌, ◌⊎◌, List, [], ◌∷◌, ◌++◌, length, get_or, set, Option, Some, None, Bool, true, false, cond}
-use Rattle.std.proofs.Common.{eqb, arith, rules, inl, inr, refl, suc, sym, ap, true≢false, ◌∙◌, subst, ⊎_elim, length-set, get_or-set_same, get_or-set_other}
+use Rattle.std.proofs.Common.{Result, Ok, Err, OnErr, eqb, arith, rules, inl, inr, refl, zero, suc, sym, ap, true≢false, ◌∙◌, subst, ⊎_elim, length-set, get_or-set_same, get_or-set_other}
 use Rattle.std.proofs.Common.{length-append}
 use Rattle.std.proofs.Math.ListN.{get_or-append}
 use Rattle.std.proofs.Math.Seq.{get_or-append_seam, set-append_seam}
-use Rattle.std.specs.Prelude.{All, Contains, Vec}
+use Rattle.std.specs.Prelude.{All, Contains, IfSome, MatchOption, OnOk}
 use Rattle.std.specs.Bool.{beq}
 use Rattle.std.specs.List.{slice_get, count_by, swap_remove}
-use Rattle.std.specs.Option.{option_map_or}
-use Rattle.std.specs.declared.alloc.Global.{Global}
 use Rattle.std.proofs.lemmas.Option.{get_or_from_slice_get, same_Some, slice_get-get_or, slice_get_past, slice_get_within}
 use Rattle.std.proofs.lemmas.List.Elements.{All-push, All-set, All-take}
 use Rattle.std.proofs.lemmas.Bool.{cases_Bool, cases_eq, cases_lt, cond-true, cond-false, eq-eqb, ne_eqb}
 use Rattle.std.proofs.lemmas.List.Sums.{sum_by-swap_remove, sum_by-append, sum_by-cons, sum_by-remove, sum_by-set}
 use Rattle.std.proofs.lemmas.List.{get_or-take, get_or_past, length-take-le}
 use Rattle.resolver_clause_store.specs.declared.literals.Literal.{Literal}
+use Rattle.resolver_clause_store.specs.declared.trail.Trail.{Trail}
 use Rattle.resolver_clause_store.specs.Formula.{clause_at}
+use Rattle.resolver_clause_store.specs.Unsatisfied.{IsFirstUnsatisfied, IsNextUnsatisfied}
+use Rattle.resolver_clause_store.specs.declared.watches.PlacedWatch.{PlacedWatch}
 use Rattle.resolver_clause_store.specs.declared.watches.Watch.{Watch}
 use Rattle.resolver_clause_store.specs.declared.pairs.WatchedPair.{WatchedPair}
-use Rattle.resolver_clause_store.specs.Watches.{FitClauses, FitsClause, IsPair, IsWatched, IsWatching, MovesWatch, PutsList, SameClauses, entry_count, is_literal}
+use Rattle.resolver_clause_store.specs.ListPools.{PutsList}
+use Rattle.resolver_clause_store.specs.Watches.{FitClauses, FitsClause, IsPair, IsWatched, IsWatching, MovesWatch, SameClauses, entry_count, is_literal}
 use Rattle.resolver_clause_store.specs.Watches.{is_watched, list_at, list_number, no_watch, pair_at, pair_count, replaced, same, stands_in, unwatched, watch_at, with_blocker}
 use Rattle.resolver_clause_store.proofs.BoolLemmas.{beq-itself, beq-true}
 use Rattle.resolver_clause_store.specs.Watches.{watched_pair}
 
-pub list_at-get_or : (lists : List (Vec Watch Global)) (list : ℕ) (d : Vec Watch Global) → list < length lists →
-    list_at lists list ≡ (get_or lists list d).items
-list_at-get_or lists list d within = ap (λ o. option_map_or (λ (c : Vec Watch Global). c.items) o []) (slice_get-get_or lists list d within)
-
-pub list_at-past : (lists : List (Vec Watch Global)) (list : ℕ) → length lists ≤ list → list_at lists list ≡ []
-list_at-past lists list past = ap (λ o. option_map_or (λ (c : Vec Watch Global). c.items) o []) (slice_get_past lists list past)
-
-pub value-at : (lists : List (Vec Watch Global)) (list place n : ℕ) (v : Vec Watch Global) (watch : Watch) → n ≡ list → v ≡ get_or lists n v →
-    watch ≡ get_or v.items place watch → list < length lists → place < length (list_at lists list) → slice_get (list_at lists list) place ≡ Some watch
-value-at lists list place n v watch named of is within inside =
-    let items : list_at lists list ≡ v.items = list_at-get_or lists list v within ∙
-    ap (λ (c : Vec Watch Global). c.items) (ap (λ m. get_or lists m v) (sym named) ∙ sym of) in
-    slice_get-get_or (list_at lists list) place watch inside ∙ ap (λ (w : Watch). Some w) (ap (λ (ws : List Watch). get_or ws place watch) items ∙ sym is)
+pub list_at-past : (lists : List (List Watch)) (list : ℕ) → length lists ≤ list → list_at lists list ≡ []
+list_at-past lists list past = get_or_past lists list [] past
 
 pub same-itself : (a b : ℕ) → a ≡ b → same a b ≡ 1
 unfolding same
@@ -50,19 +41,19 @@ unfolding same
 same-swap a b = refl
 
 -- the counts after a list changed
-pub count-push : (lists new : List (Vec Watch Global)) (list : ℕ) (watch : Watch) → PutsList lists new list (list_at lists list ++ watch ∷ []) → (n : ℕ) →
+pub count-push : (lists new : List (List Watch)) (list : ℕ) (watch : Watch) → PutsList lists new list (list_at lists list ++ watch ∷ []) → (n : ℕ) →
     entry_count new list n ≡ entry_count lists list n + same watch.number n
 unfolding entry_count
 count-push lists new list watch puts n =
     ap (λ xs. count_by (λ (w : Watch). eqb w.number n) xs) puts.here ∙
     sum_by-append (λ (w : Watch). cond (eqb w.number n) 1 0) (list_at lists list) (watch ∷ []) ∙ omega (arith, same-swap watch.number n)
 
-pub count-others : (lists new : List (Vec Watch Global)) (list : ℕ) (watches : List Watch) → PutsList lists new list watches → (other n : ℕ) → other ≢ list →
+pub count-others : (lists new : List (List Watch)) (list : ℕ) (watches : List Watch) → PutsList lists new list watches → (other n : ℕ) → other ≢ list →
     entry_count new other n ≡ entry_count lists other n
 unfolding entry_count
 count-others lists new list watches puts other n ne = ap (λ xs. count_by (λ (w : Watch). eqb w.number n) xs) (puts.others other ne)
 
-pub count-take : (lists new : List (Vec Watch Global)) (list place : ℕ) (d : Watch) → PutsList lists new list (swap_remove (list_at lists list) place d) →
+pub count-take : (lists new : List (List Watch)) (list place : ℕ) (d : Watch) → PutsList lists new list (swap_remove (list_at lists list) place d) →
     place < length (list_at lists list) → (n : ℕ) → entry_count new list n + same (get_or (list_at lists list) place d).number n ≡ entry_count lists list n
 unfolding entry_count
 count-take lists new list place d puts inside n =
@@ -71,7 +62,7 @@ count-take lists new list place d puts inside n =
     omega (arith, here, sums, same-swap (get_or (list_at lists list) place d).number n)
 
 -- a clause in a list is counted there
-pub count-positive : (lists : List (Vec Watch Global)) (list place : ℕ) (d : Watch) → place < length (list_at lists list) →
+pub count-positive : (lists : List (List Watch)) (list place : ℕ) (d : Watch) → place < length (list_at lists list) →
     0 < entry_count lists list (get_or (list_at lists list) place d).number
 unfolding entry_count
 count-positive lists list place d inside =
@@ -84,7 +75,7 @@ pub pair_at-past : (pairs : List WatchedPair) (number : ℕ) → length pairs �
 pair_at-past pairs number past = get_or_past pairs number unwatched past
 
 -- the counts of one clause change in some lists, and its pair changes accordingly
-pub watched-step : (lists new : List (Vec Watch Global)) (pairs : List WatchedPair) (number : ℕ) (pair : WatchedPair) (gains loses : ℕ → ℕ) →
+pub watched-step : (lists new : List (List Watch)) (pairs : List WatchedPair) (number : ℕ) (pair : WatchedPair) (gains loses : ℕ → ℕ) →
     IsWatched lists pairs → number < length pairs →
     ((l n : ℕ) → entry_count new l n + loses l * same number n ≡ entry_count lists l n + gains l * same number n) →
     ((l : ℕ) → pair_count pair l + loses l ≡ pair_count (pair_at pairs number) l + gains l) → IsWatched new (set pairs number pair)
@@ -107,7 +98,7 @@ watched-step lists new pairs number pair gains loses watched inside counts now =
     (cases_eq n number)
 
 -- a clause in one more list
-pub watched-attach : (lists new : List (Vec Watch Global)) (pairs : List WatchedPair) (list : ℕ) (watch : Watch) (pair : WatchedPair) → IsWatched lists pairs →
+pub watched-attach : (lists new : List (List Watch)) (pairs : List WatchedPair) (list : ℕ) (watch : Watch) (pair : WatchedPair) → IsWatched lists pairs →
     watch.number < length pairs → PutsList lists new list (list_at lists list ++ watch ∷ []) →
     ((l : ℕ) → pair_count pair l ≡ pair_count (pair_at pairs watch.number) l + same list l) → IsWatched new (set pairs watch.number pair)
 watched-attach lists new pairs list watch pair watched inside pushed now =
@@ -125,7 +116,7 @@ watched-attach lists new pairs list watch pair watched inside pushed now =
     (λ l. omega (arith, now l))
 
 -- a clause that moved from one list to another
-pub watched-move : (lists mid new : List (Vec Watch Global)) (pairs : List WatchedPair) (from to place : ℕ) (d watch : Watch) (pair : WatchedPair) →
+pub watched-move : (lists mid new : List (List Watch)) (pairs : List WatchedPair) (from to place : ℕ) (d watch : Watch) (pair : WatchedPair) →
     IsWatched lists pairs → from ≢ to → watch.number < length pairs → PutsList lists mid to (list_at lists to ++ watch ∷ []) →
     PutsList mid new from (swap_remove (list_at lists from) place d) → place < length (list_at lists from) →
     watch.number ≡ (get_or (list_at lists from) place d).number →
@@ -294,19 +285,19 @@ replaced-pair pair from to kept ne is = ⊎_elim
     is
 
 -- without clauses nothing is watched
-pub watched-empty : (lists : List (Vec Watch Global)) (pairs : List WatchedPair) → lists ≡ [] → pairs ≡ [] → IsWatched lists pairs
+pub watched-empty : (lists : List (List Watch)) (pairs : List WatchedPair) → lists ≡ [] → pairs ≡ [] → IsWatched lists pairs
 unfolding entry_count
 watched-empty lists pairs none empty = λ l n.
     ap (λ ws. count_by (λ (w : Watch). eqb w.number n) ws) (list_at-past lists l (omega (arith, ap (λ xs. length xs) none))) ∙
     sym (ap (λ (p : WatchedPair). pair_count p l) (pair_at-past pairs n (omega (arith, ap (λ xs. length xs) empty))) ∙ pair-none l)
 
 -- the same lists
-pub watched-lists : (lists new : List (Vec Watch Global)) (pairs : List WatchedPair) → ((list : ℕ) → list_at new list ≡ list_at lists list) →
+pub watched-lists : (lists new : List (List Watch)) (pairs : List WatchedPair) → ((list : ℕ) → list_at new list ≡ list_at lists list) →
     IsWatched lists pairs → IsWatched new pairs
 unfolding entry_count
 watched-lists lists new pairs same' watched = λ l n. ap (λ ws. count_by (λ (w : Watch). eqb w.number n) ws) (same' l) ∙ watched l n
 
-pub puts-same : (lists new : List (Vec Watch Global)) (list : ℕ) → PutsList lists new list (list_at lists list) → (other : ℕ) →
+pub puts-same : (lists new : List (List Watch)) (list : ℕ) → PutsList lists new list (list_at lists list) → (other : ℕ) →
     list_at new other ≡ list_at lists other
 puts-same lists new list puts other = ⊎_elim
     (λ (e : other ≡ list). subst (λ l. list_at new l ≡ list_at lists l) (sym e) puts.here)
@@ -321,8 +312,20 @@ pair_at-before pairs pair number inside = get_or-append pairs (pair ∷ []) unwa
 pub pair_at-last : (pairs : List WatchedPair) (pair : WatchedPair) → pair_at (pairs ++ pair ∷ []) (length pairs) ≡ pair
 pair_at-last pairs pair = get_or-append_seam pairs pair [] unwatched
 
+unwatched-more : (pairs : List WatchedPair) (number : ℕ) → pair_at (pairs ++ unwatched ∷ []) number ≡ pair_at pairs number
+unwatched-more [] zero = refl
+unwatched-more [] (suc number) = refl
+unwatched-more (pair ∷ pairs) zero = refl
+unwatched-more (pair ∷ pairs) (suc number) = unwatched-more pairs number
+
+pub watched-more : {E : Type 0} (result : Result (Unit {0}) E) (lists : List (List Watch)) (pairs more : List WatchedPair) →
+    OnOk result (more ≡ pairs ++ unwatched ∷ []) → OnErr result (more ≡ pairs) → IsWatched lists pairs → IsWatched lists more
+watched-more (Ok done) lists pairs more added same' watched = λ l n. watched l n ∙
+    ap (λ (p : WatchedPair). pair_count p l) (sym (ap (λ (ps : List WatchedPair). pair_at ps n) added ∙ unwatched-more pairs n))
+watched-more (Err e) lists pairs more added same' watched = λ l n. watched l n ∙ ap (λ (ps : List WatchedPair). pair_count (pair_at ps n) l) (sym same')
+
 -- a clause in the list of a literal watches the literal
-pub listed-watching : (lists : List (Vec Watch Global)) (pairs : List WatchedPair) (literal : Literal) (place : ℕ) (watch : Watch) → IsWatched lists pairs →
+pub listed-watching : (lists : List (List Watch)) (pairs : List WatchedPair) (literal : Literal) (place : ℕ) (watch : Watch) → IsWatched lists pairs →
     slice_get (list_at lists (list_number literal)) place ≡ Some watch → IsWatching pairs watch.number literal
 listed-watching lists pairs literal place watch watched is =
     let list = list_number literal in
@@ -331,6 +334,24 @@ listed-watching lists pairs literal place watch watched is =
     subst (λ (w : Watch). 0 < entry_count lists list w.number) (get_or_from_slice_get (list_at lists list) place watch watch is)
     (count-positive lists list place watch inside) in
     pair-watching (pair_at pairs watch.number) literal (omega (arith, counted, watched list watch.number))
+
+pub placed-watching : (lists : List (List Watch)) (pairs : List WatchedPair) (literal : Literal) (place list : ℕ) (watches : List Watch)
+    (result : Option PlacedWatch) → IsWatched lists pairs → list ≡ list_number literal → watches ≡ list_at lists list →
+    MatchOption result (length watches ≤ place) (λ placed. (placed.place ≡ place) × (slice_get watches place ≡ Some placed.watch)) →
+    IfSome result (λ placed. IsWatching pairs placed.watch.number literal)
+placed-watching lists pairs literal place list watches None watched named is value = tt
+placed-watching lists pairs literal place list watches (Some placed) watched named is value =
+    listed-watching lists pairs literal place placed.watch watched
+    (ap (λ (ws : List Watch). slice_get ws place) (sym (is ∙ ap (λ l. list_at lists l) named)) ∙ value.1)
+
+pub next-watching : (lists : List (List Watch)) (pairs : List WatchedPair) (trail : Trail) (literal : Literal) (from list : ℕ) (watches : List Watch)
+    (result : Option PlacedWatch) → IsWatched lists pairs → list ≡ list_number literal → watches ≡ list_at lists list →
+    MatchOption result (IsFirstUnsatisfied trail watches from (length watches)) (IsNextUnsatisfied trail watches from) →
+    IfSome result (λ placed. IsWatching pairs placed.watch.number literal)
+next-watching lists pairs trail literal from list watches None watched named is value = tt
+next-watching lists pairs trail literal from list watches (Some placed) watched named is value =
+    listed-watching lists pairs literal placed.place placed.watch watched
+    (ap (λ (ws : List Watch). slice_get ws placed.place) (sym (is ∙ ap (λ l. list_at lists l) named)) ∙ value.is)
 
 some-none : {A : Type 0} (literal : Literal) → None ≡ Some literal → A
 some-none literal e = absurd cc
@@ -360,7 +381,7 @@ counted-stands (w ∷ watches) number positive =
     (suc rest.0, rest.1, rest.2, rest.3))
     (cases_eq w.number number)
 
-pub watching-stands : (lists : List (Vec Watch Global)) (pairs : List WatchedPair) (number : ℕ) (literal : Literal) → IsWatched lists pairs →
+pub watching-stands : (lists : List (List Watch)) (pairs : List WatchedPair) (number : ℕ) (literal : Literal) → IsWatched lists pairs →
     IsWatching pairs number literal → (place : ℕ) × (watch : Watch) × (slice_get (list_at lists (list_number literal)) place ≡ Some watch) ×
     (watch.number ≡ number)
 unfolding entry_count
@@ -369,26 +390,26 @@ watching-stands lists pairs number literal watched watching =
     (omega (arith, watched (list_number literal) number, pair-positive (pair_at pairs number) literal watching))
 
 -- a property of each watch in each list
-pub puts-all : (P : Watch → Type 0) (old new : List (Vec Watch Global)) (list : ℕ) (watches : List Watch) → PutsList old new list watches → All P watches →
+pub puts-all : (P : Watch → Type 0) (old new : List (List Watch)) (list : ℕ) (watches : List Watch) → PutsList old new list watches → All P watches →
     ((l : ℕ) → All P (list_at old l)) → (l : ℕ) → All P (list_at new l)
 puts-all P old new list watches puts all' before l = ⊎_elim
     (λ (e : l ≡ list). subst (λ k. All P (list_at new k)) (sym e) (subst (λ (ws : List Watch). All P ws) (sym puts.here) all'))
     (λ (ne : l ≢ list). subst (λ (ws : List Watch). All P ws) (sym (puts.others l ne)) (before l))
     (cases_eq l list)
 
-pub fit-push : (table : List (List Literal)) (old new : List (Vec Watch Global)) (list : ℕ) (watch : Watch) →
+pub fit-push : (table : List (List Literal)) (old new : List (List Watch)) (list : ℕ) (watch : Watch) →
     PutsList old new list (list_at old list ++ watch ∷ []) → FitsClause table watch → FitClauses table old → FitClauses table new
 fit-push table old new list watch puts fits before =
     let P : Watch → Type 0 = λ w. FitsClause table w in
     puts-all P old new list _ puts (All-push P (list_at old list) watch (before list) fits) before
 
-pub fit-set : (table : List (List Literal)) (old new : List (Vec Watch Global)) (list place : ℕ) (watch : Watch) →
+pub fit-set : (table : List (List Literal)) (old new : List (List Watch)) (list place : ℕ) (watch : Watch) →
     PutsList old new list (set (list_at old list) place watch) → FitsClause table watch → FitClauses table old → FitClauses table new
 fit-set table old new list place watch puts fits before =
     let P : Watch → Type 0 = λ w. FitsClause table w in
     puts-all P old new list _ puts (All-set P (list_at old list) place watch fits (before list)) before
 
-pub fit-take : (table : List (List Literal)) (old new : List (Vec Watch Global)) (list place : ℕ) (d : Watch) →
+pub fit-take : (table : List (List Literal)) (old new : List (List Watch)) (list place : ℕ) (d : Watch) →
     PutsList old new list (swap_remove (list_at old list) place d) → place < length (list_at old list) → FitClauses table old → FitClauses table new
 fit-take table old new list place d puts inside before =
     let P : Watch → Type 0 = λ w. FitsClause table w in
@@ -398,7 +419,7 @@ fit-take table old new list place d puts inside before =
     (All-set P xs place _ (before list (length xs - 1) d (omega (arith, inside))) (before list))) before
 
 -- a watch in a list fits its clause
-pub fit-at : (table : List (List Literal)) (lists : List (Vec Watch Global)) (list place : ℕ) (watch : Watch) → FitClauses table lists →
+pub fit-at : (table : List (List Literal)) (lists : List (List Watch)) (list place : ℕ) (watch : Watch) → FitClauses table lists →
     slice_get (list_at lists list) place ≡ Some watch → FitsClause table watch
 fit-at table lists list place watch fit is =
     subst (λ (w : Watch). FitsClause table w) (get_or_from_slice_get (list_at lists list) place watch watch is)
@@ -417,16 +438,17 @@ pub watch_at-get_or : (watches : List Watch) (place : ℕ) (d : Watch) → place
 watch_at-get_or watches place d within = watch_at-is watches place (get_or watches place d) (slice_get-get_or watches place d within)
 
 -- the watch at a place gets another blocker
-pub watched-set : (lists new : List (Vec Watch Global)) (pairs : List WatchedPair) (list place : ℕ) (watch : Watch) → IsWatched lists pairs →
-    PutsList lists new list (set (list_at lists list) place watch) → place < length (list_at lists list) → watch.number ≡ (watch_at (list_at lists list) place).number →
+pub watched-set : (lists new : List (List Watch)) (pairs : List WatchedPair) (list place : ℕ) (watch was : Watch) → IsWatched lists pairs →
+    PutsList lists new list (set (list_at lists list) place watch) → slice_get (list_at lists list) place ≡ Some was → watch.number ≡ was.number →
     IsWatched new pairs
 unfolding entry_count
-watched-set lists new pairs list place watch watched puts inside named = λ l n. ⊎_elim
+watched-set lists new pairs list place watch was watched puts read named = λ l n. ⊎_elim
     (λ (e : l ≡ list).
     let here = ap (λ ws. count_by (λ (w : Watch). eqb w.number n) ws) puts.here in
+    let inside = slice_get_within (list_at lists list) place was read in
     let sums = sum_by-set (λ (w : Watch). cond (eqb w.number n) 1 0) (list_at lists list) place watch watch inside in
     let one : ◌≡◌ {A = ℕ} (cond (eqb watch.number n) 1 0) (cond (eqb (get_or (list_at lists list) place watch).number n) 1 0) =
-    ap (λ k. cond (eqb k n) 1 0) (named ∙ ap (λ (w : Watch). w.number) (watch_at-get_or (list_at lists list) place watch inside)) in
+    ap (λ k. cond (eqb k n) 1 0) (named ∙ ap (λ (w : Watch). w.number) (sym (get_or_from_slice_get (list_at lists list) place was watch read))) in
     subst (λ k. entry_count new k n ≡ pair_count (pair_at pairs n) k) (sym e) (omega (arith, here, sums, one, watched list n)))
     (λ (ne : l ≢ list). count-others lists new list _ puts l n ne ∙ watched l n)
     (cases_eq l list)
@@ -448,11 +470,12 @@ taken-before watches place d k inside before =
     ∙ sym (slice_get-get_or watches k d (omega (arith, inside, before)))
 
 -- another blocker
-pub same-clauses : (old new : List (Vec Watch Global)) (list place : ℕ) (blocker : Literal) → place < length (list_at old list) →
-    PutsList old new list (set (list_at old list) place (with_blocker (watch_at (list_at old list) place) blocker)) → SameClauses old new
-same-clauses old new list place blocker inside puts =
+pub same-clauses : (old new : List (List Watch)) (list place : ℕ) (was : Watch) (blocker : Literal) → slice_get (list_at old list) place ≡ Some was →
+    PutsList old new list (set (list_at old list) place (with_blocker was blocker)) → SameClauses old new
+same-clauses old new list place was blocker read puts =
     let xs = list_at old list in
-    let written : Watch = with_blocker (watch_at xs place) blocker in
+    let written : Watch = with_blocker was blocker in
+    let inside : place < length xs = slice_get_within xs place was read in
     record {
       size = puts.size;
       count = λ l. ⊎_elim
@@ -465,7 +488,7 @@ same-clauses old new list place blocker inside puts =
           let here : slice_get (set xs place written) k ≡ Some watch = ap (λ (ws : List Watch). slice_get ws k) (sym puts.here) ∙
           subst (λ m. slice_get (list_at new m) k ≡ Some watch) e is in
           subst (λ m. (was : Watch) × (slice_get (list_at old m) k ≡ Some was) × (was.number ≡ watch.number)) (sym e)
-          (set-back xs place k written watch inside (ap (λ (w : Watch). w.number) (watch_at-get_or xs place written inside)) here))
+          (set-back xs place k written watch inside (ap (λ (w : Watch). w.number) (sym (get_or_from_slice_get xs place was written read))) here))
           (λ (ne : l ≢ list). (watch, ap (λ (ws : List Watch). slice_get ws k) (sym (puts.others l ne)) ∙ is, refl))
           (cases_eq l list);
     }
@@ -487,7 +510,7 @@ same-clauses old new list place blocker inside puts =
         )
 
 -- a clause that moved
-pub moves-watch : (old mid new : List (Vec Watch Global)) (before : List WatchedPair) (from to : Literal) (place : ℕ) (d watch : Watch) → from ≢ to →
+pub moves-watch : (old mid new : List (List Watch)) (before : List WatchedPair) (from to : Literal) (place : ℕ) (d watch : Watch) → from ≢ to →
     watch.number < length before → PutsList old mid (list_number to) (list_at old (list_number to) ++ watch ∷ []) →
     PutsList mid new (list_number from) (swap_remove (list_at mid (list_number from)) place d) → place < length (list_at old (list_number from)) →
     MovesWatch old new before (set before watch.number (replaced (pair_at before watch.number) from to)) from to place watch.number
@@ -506,7 +529,7 @@ moves-watch old mid new before from to place d watch differ inside pushed taken 
       first = λ k less. ap (λ (ws : List Watch). slice_get ws k) list' ∙ taken-before (list_at old f) place d k at' less;
     }
 
-pub fit-move : (table : List (List Literal)) (old mid new : List (Vec Watch Global)) (from to : Literal) (place : ℕ) (d watch : Watch) → from ≢ to →
+pub fit-move : (table : List (List Literal)) (old mid new : List (List Watch)) (from to : Literal) (place : ℕ) (d watch : Watch) → from ≢ to →
     PutsList old mid (list_number to) (list_at old (list_number to) ++ watch ∷ []) →
     PutsList mid new (list_number from) (swap_remove (list_at mid (list_number from)) place d) → place < length (list_at old (list_number from)) →
     FitsClause table watch → FitClauses table old → FitClauses table new
@@ -555,7 +578,7 @@ pub added-inside : (pairs new : List WatchedPair) (pair : WatchedPair) (number :
 added-inside pairs new pair number added last = omega (arith, last, ap (λ (ps : List WatchedPair). length ps) added, length-append pairs (pair ∷ []))
 
 -- a move, step by step: the watch that was read, pushed, removed and written
-pub record IsMove (old mid new : List (Vec Watch Global)) (before : List WatchedPair) (from to : Literal) (place : ℕ) (blocker : Literal) (read : Watch)
+pub record IsMove (old mid new : List (List Watch)) (before : List WatchedPair) (from to : Literal) (place : ℕ) (blocker : Literal) (read : Watch)
     (pair : WatchedPair) : Type 0 where
   pub differ : from ≢ to
   pub value : slice_get (list_at old (list_number from)) place ≡ Some read
@@ -565,7 +588,7 @@ pub record IsMove (old mid new : List (Vec Watch Global)) (before : List Watched
   pub taken : PutsList mid new (list_number from) (swap_remove (list_at mid (list_number from)) place read)
   pub pair_is : pair ≡ replaced (pair_at before read.number) from to
 
-module _ (old mid new : List (Vec Watch Global)) (before : List WatchedPair) (from to : Literal) (place : ℕ) (blocker : Literal) (read : Watch)
+module _ (old mid new : List (List Watch)) (before : List WatchedPair) (from to : Literal) (place : ℕ) (blocker : Literal) (read : Watch)
     (pair : WatchedPair) (m : IsMove old mid new before from to place blocker read pair) where
   at' : place < length (list_at old (list_number from))
   at' = slice_get_within (list_at old (list_number from)) place read m.value

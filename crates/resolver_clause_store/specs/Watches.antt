@@ -14,8 +14,8 @@ abbrev pub list_number : Literal → ℕ
 list_number literal = 2 * literal.variable + (if literal.positive then 1 else 0)
 
 -- the content of a list
-abbrev pub list_at : List (Vec Watch Global) → ℕ → List Watch
-list_at lists list = option_map_or (λ (watches : Vec Watch Global). watches.items) (slice_get lists list) []
+abbrev pub list_at : List (List Watch) → ℕ → List Watch
+list_at lists list = slice_index_or lists list []
 
 -- stands for the watch behind the end of a list
 abbrev pub no_watch : Watch
@@ -59,7 +59,7 @@ abbrev pub replaced : WatchedPair → Literal → Literal → WatchedPair
 replaced pair from to = if is_watched pair.first from then record { first = Some to; second = pair.second } else record { first = pair.first; second = Some to }
 
 -- the number of times that a clause is in a list
-unfoldable pub entry_count : List (Vec Watch Global) → ℕ → ℕ → ℕ
+unfoldable pub entry_count : List (List Watch) → ℕ → ℕ → ℕ
 entry_count lists list number = count_by (λ (watch : Watch). watch.number == number) (list_at lists list)
 
 -- 1 if both are the same, and otherwise 0
@@ -75,7 +75,7 @@ unfoldable pub pair_count : WatchedPair → ℕ → ℕ
 pair_count pair list = stands_in pair.first list + stands_in pair.second list
 
 -- each clause is in the lists of the literals that it watches, once for each, and in no other list
-abbrev pub IsWatched : List (Vec Watch Global) → List WatchedPair → Type 0
+abbrev pub IsWatched : List (List Watch) → List WatchedPair → Type 0
 IsWatched lists pairs = (list number : ℕ) → entry_count lists list number ≡ pair_count (pair_at pairs number) list
 
 -- the clause watches the literal
@@ -88,7 +88,7 @@ pub record FitsClause (table : List (List Literal)) (watch : Watch) : Type 0 whe
   pub two : watch.is_binary ≡ true → length (clause_at table watch.number) ≡ 2
 
 -- each watch fits its clause
-abbrev pub FitClauses : List (List Literal) → List (Vec Watch Global) → Type 0
+abbrev pub FitClauses : List (List Literal) → List (List Watch) → Type 0
 FitClauses table lists = (list : ℕ) → All (λ (watch : Watch). FitsClause table watch) (list_at lists list)
 
 -- the clause watches these two literals
@@ -100,23 +100,17 @@ abbrev pub pair_from : Option (Literal × Literal) → WatchedPair
 pair_from pair = record { first = option_map (λ (two : Literal × Literal). two.0) pair; second = option_map (λ (two : Literal × Literal). two.1) pair }
 
 -- the lists have the same clauses at the same places
-pub record SameClauses (old new : List (Vec Watch Global)) : Type 0 where
+pub record SameClauses (old new : List (List Watch)) : Type 0 where
   pub size : length new ≡ length old
   pub count : (list : ℕ) → length (list_at new list) ≡ length (list_at old list)
   pub back : (list place : ℕ) (watch : Watch) → slice_get (list_at new list) place ≡ Some watch → (was : Watch) ×
       (slice_get (list_at old list) place ≡ Some was) × (was.number ≡ watch.number)
 
 -- the clause with this number, which was at a place of the list of one literal, watches another literal instead
-pub record MovesWatch (old new : List (Vec Watch Global)) (before after : List WatchedPair) (from to : Literal) (place number : ℕ) : Type 0 where
+pub record MovesWatch (old new : List (List Watch)) (before after : List WatchedPair) (from to : Literal) (place number : ℕ) : Type 0 where
   pub size : length new ≡ length old
   pub attached : length after ≡ length before
   pub others : (other : ℕ) → other ≢ number → pair_at after other ≡ pair_at before other
   pub here : (kept : Literal) → from ≢ kept → IsPair (pair_at before number) from kept → IsPair (pair_at after number) to kept
   pub shorter : length (list_at new (list_number from)) + 1 ≡ length (list_at old (list_number from))
   pub first : (k : ℕ) → k < place → slice_get (list_at new (list_number from)) k ≡ slice_get (list_at old (list_number from)) k
-
--- one list was replaced
-pub record PutsList (old new : List (Vec Watch Global)) (list : ℕ) (watches : List Watch) : Type 0 where
-  pub size : length new ≡ length old
-  pub here : list_at new list ≡ watches
-  pub others : (other : ℕ) → other ≢ list → list_at new other ≡ list_at old other

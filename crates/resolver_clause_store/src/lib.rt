@@ -66,4 +66,4 @@ pub use sets::{has, meets};
 pub use trail::{Reason, Slot, Trail};
 pub use union_ends::UnionEnds;
 pub use variables::Variables;
-pub use watches::{Watch, Watches};
+pub use watches::{PlacedWatch, Watch, Watches};

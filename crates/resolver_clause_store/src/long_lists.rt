@@ -138,7 +138,8 @@ impl<T: Copy> LongLists<T> {
     pub fn take(&mut self, number: usize, place: usize)
         requires number { number < length self.old }
         requires place { place < length (list_of self.old number) }
-        ensures { (any : T) → PutsList self.old self.new number (swap_remove (list_of self.old number) place any) }
+        ensures size { length self.new ≡ length self.old }
+        ensures taken { (any : T) → PutsList self.old self.new number (swap_remove (list_of self.old number) place any) }
     {
         if number == self.number {
             let _taken = self.at_hand.swap_remove(place);

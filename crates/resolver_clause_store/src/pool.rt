@@ -1,20 +1,22 @@
 //! Lists by number, most of which are short and lie in one vector.
 
 ghost use Rattle.std.specs.Prelude.{◌≡◌, ◌≢◌, ◌<◌, ◌≤◌, ◌+◌, ◌-◌, ◌^◌, ◌∷◌, ◌++◌, [], ℕ, IfOk, List, OnErr, OnOk, drop, false, length, slice_set, take, true};
+ghost use Rattle.std.specs.List.{swap_remove};
 ghost use Rattle.resolver_clause_store.specs.Parked.{list_of as starts_of};
-ghost use Rattle.resolver_clause_store.specs.ListPools.{AreHomes, AreSameLists, Extends, HasRoom, IsLoose, IsWithin, PutsList, home_at, list_of, nowhere, own_at};
+ghost use Rattle.resolver_clause_store.specs.ListPools.{AreHomes, AreSameLists, Extends, HasRoom, IsLoose, IsWithin, PutsList, home_at, list_of};
 ghost use Rattle.resolver_clause_store.specs.declared.pool.Home.{Home};
 
+use crate::long_lists::LongLists;
 use crate::numbers::narrow;
 use crate::parked::ParkedLists;
 use std::alloc::{AllocError, Global};
 
 /// Where the items of a list are.
 ///
-/// Those of a short list are at the front of its part of a vector that it shares with others. A long list has a vector of its own.
+/// Those of a short list are at the front of its part of a vector that it shares with others. A long list is one of the `LongLists`.
 #[derive(Clone, Copy)]
 pub struct Home {
-    /// The place where a short list's part begins, or the number of a long list's vector.
+    /// The place where a short list's part begins, or the number of a long list among those.
     place: u32,
     /// The number of items of a short list.
     length: u8,
@@ -24,33 +26,33 @@ pub struct Home {
     is_long: bool,
 }
 
-/// The number of items that a short list has at most.
-const LARGEST: u8 = 16;
+/// The number of items that the largest part has room for.
+const LARGEST: u8 = 19;
 
 /// Lists by number, most of which are short.
 ///
-/// A short list takes eight bytes, and a part of one vector with room for 2, 4, 8 or 16 items. When it outgrows its part, that part
+/// A short list takes eight bytes, and a part of one vector with room for 2, 3, 4, 6, 9, 13 or 19 items. When it outgrows its part, that part
 /// serves for another list.
 #[derive(Drop)]
 pub struct ListPool<T: Copy> {
     alloc: Global,
     items: Vec<T>,
     homes: Vec<Home>,
-    long: Vec<Vec<T>>,
+    long: LongLists<T>,
     /// The places where the parts begin that no list has, by the number of items that they have room for.
     free: ParkedLists,
-    ghost homed: { AreHomes (length items.items) (length long.items) homes.items (starts_of free) },
+    ghost homed: { AreHomes (length items.items) (length long) homes.items (starts_of free) },
 }
 
 /// Returns the number of items that the next larger part has room for.
 fn wider(capacity: u8) -> u8
-    requires { capacity < 16 }
+    requires { capacity < 19 }
     ensures { capacity < result }
 {
-    if capacity == 0 {
+    if capacity < 2 {
         return 2;
     }
-    capacity * 2
+    capacity + capacity / 2
 }
 
 /// Appends copies of an item.
@@ -83,9 +85,9 @@ fn take_part<T: Copy>(
     filler: T,
 ) -> Result<u32, AllocError>
     ensures extends { Extends items.old.items items.new.items }
-    ensures homed { (vectors : ℕ) (homes : List Home) → AreHomes (length items.old.items) vectors homes (starts_of free.old) →
-        AreHomes (length items.new.items) vectors homes (starts_of free.new) }
-    ensures loose { IfOk result (λ place. (vectors : ℕ) (homes : List Home) → AreHomes (length items.old.items) vectors homes (starts_of free.old) →
+    ensures homed { (numbers : ℕ) (homes : List Home) → AreHomes (length items.old.items) numbers homes (starts_of free.old) →
+        AreHomes (length items.new.items) numbers homes (starts_of free.new) }
+    ensures loose { IfOk result (λ place. (numbers : ℕ) (homes : List Home) → AreHomes (length items.old.items) numbers homes (starts_of free.old) →
         IsLoose (length items.new.items) homes (starts_of free.new) place capacity) }
 {
     match free.pop(capacity as usize)? {
@@ -116,8 +118,8 @@ fn add_homes(homes: &mut Vec<Home>, count: usize) -> Result<(), AllocError>
 
 /// Gives back a part that a list had, if it has room for any item.
 fn give_back(free: &mut ParkedLists, capacity: u8, place: u32) -> Result<(), AllocError>
-    ensures { (count vectors : ℕ) (homes : List Home) → IsLoose count homes (starts_of free.old) place capacity →
-        AreHomes count vectors homes (starts_of free.old) → AreHomes count vectors homes (starts_of free.new) }
+    ensures { (count numbers : ℕ) (homes : List Home) → IsLoose count homes (starts_of free.old) place capacity →
+        AreHomes count numbers homes (starts_of free.old) → AreHomes count numbers homes (starts_of free.new) }
 {
     if capacity == 0 {
         return Ok(());
@@ -160,7 +162,7 @@ impl<T: Copy> ListPool<T> {
             alloc,
             items: Vec::new(alloc),
             homes: Vec::new(alloc),
-            long: Vec::new(alloc),
+            long: LongLists::new(alloc),
             free: ParkedLists::new(alloc),
         }
     }
@@ -180,9 +182,20 @@ impl<T: Copy> ListPool<T> {
     {
         let home = &self.homes[list];
         if home.is_long {
-            return self.long[home.place as usize].as_slice();
+            return self.long.at(home.place as usize);
         }
         part(&self.items, home)
+    }
+
+    /// Brings a list to hand, which changes no list. A long list is found sooner then, until another one is brought to hand.
+    pub fn bring(&mut self, list: usize)
+        requires { list < length (lists_in self.old) }
+        ensures { lists_in self.new ≡ lists_in self.old }
+    {
+        let home = self.homes[list];
+        if home.is_long {
+            self.long.bring(home.place as usize);
+        }
     }
 
     /// Adds empty lists, up to this many.
@@ -196,18 +209,6 @@ impl<T: Copy> ListPool<T> {
     }
 }
 
-/// Appends an item to the vector of a long list.
-fn push_own<T: Copy>(long: &mut Vec<Vec<T>>, number: usize, item: T) -> Result<(), AllocError>
-    requires { number < length long.old.items }
-    ensures size { length long.new.items ≡ length long.old.items }
-    ensures here { OnOk result (own_at long.new.items number ≡ own_at long.old.items number ++ item ∷ []) }
-    ensures unchanged { OnErr result (own_at long.new.items number ≡ own_at long.old.items number) }
-    ensures others { (other : ℕ) → other ≢ number → own_at long.new.items other ≡ own_at long.old.items other }
-{
-    long[number].push(item)?;
-    Ok(())
-}
-
 impl<T: Copy> ListPool<T> {
     ghost use Rattle.resolver_clause_store.specs.ListPoolsView.{lists_in};
 
@@ -215,7 +216,7 @@ impl<T: Copy> ListPool<T> {
     fn widen(&mut self, list: usize, filler: T) -> Result<(), AllocError>
         requires list { list < length (lists_in self.old) }
         requires short { (home_at self.old.homes.items list).is_long ≡ false }
-        requires small { (home_at self.old.homes.items list).capacity < 16 }
+        requires small { (home_at self.old.homes.items list).capacity < 19 }
         ensures lists { AreSameLists (lists_in self.old) (lists_in self.new) }
         ensures room { OnOk result (HasRoom (home_at self.new.homes.items list)) }
     {
@@ -233,7 +234,7 @@ impl<T: Copy> ListPool<T> {
         Ok(())
     }
 
-    /// Gives a short list a vector of its own.
+    /// Makes a short list a long one.
     fn lengthen(&mut self, list: usize) -> Result<(), AllocError>
         requires list { list < length (lists_in self.old) }
         requires short { (home_at self.old.homes.items list).is_long ≡ false }
@@ -243,7 +244,7 @@ impl<T: Copy> ListPool<T> {
         let home = self.homes[list];
         let place = narrow(self.long.len())?;
         let items = Vec::from_slice(self.alloc, part(&self.items, &home))?;
-        self.long.push(items)?;
+        self.long.add(items)?;
         self.homes[list] = Home {
             place,
             length: 0,
@@ -303,7 +304,7 @@ impl<T: Copy> ListPool<T> {
     {
         let home = self.homes[list];
         if home.is_long {
-            push_own(&mut self.long, home.place as usize, item)?;
+            self.long.push(home.place as usize, item)?;
             return Ok(());
         }
         self.items[home.place as usize + home.length as usize] = item;
@@ -327,5 +328,41 @@ impl<T: Copy> ListPool<T> {
         }
         self.put(list, item)?;
         Ok(())
+    }
+
+    /// Replaces an item of a list.
+    pub fn set(&mut self, list: usize, place: usize, item: T)
+        requires list { list < length (lists_in self.old) }
+        requires place { place < length (list_of (lists_in self.old) list) }
+        ensures { PutsList (lists_in self.old) (lists_in self.new) list (slice_set (list_of (lists_in self.old) list) place item) }
+    {
+        let home = self.homes[list];
+        if home.is_long {
+            self.long.set(home.place as usize, place, item);
+            return;
+        }
+        self.items[home.place as usize + place] = item;
+    }
+
+    /// Removes an item of a list, and puts the last one in its place.
+    pub fn take(&mut self, list: usize, place: usize)
+        requires list { list < length (lists_in self.old) }
+        requires place { place < length (list_of (lists_in self.old) list) }
+        ensures { (any : T) → PutsList (lists_in self.old) (lists_in self.new) list (swap_remove (list_of (lists_in self.old) list) place any) }
+    {
+        let home = self.homes[list];
+        if home.is_long {
+            self.long.take(home.place as usize, place);
+            return;
+        }
+        let start = home.place as usize;
+        let length = home.length - 1;
+        self.items[start + place] = self.items[start + length as usize];
+        self.homes[list] = Home {
+            place: home.place,
+            length,
+            capacity: home.capacity,
+            is_long: false,
+        };
     }
 }

@@ -1,16 +1,17 @@
 //! The clauses that watch each literal.
 
-ghost use Rattle.std.specs.Prelude.{◌≡◌, ◌≢◌, ℕ, ◌+◌, ◌*◌, ◌<◌, ◌≤◌, ◌++◌, ◌∷◌, [], All, List, OnErr, OnOk, Some, Vec, length, slice_get, slice_set};
-ghost use Rattle.std.specs.List.{swap_remove};
-ghost use Rattle.std.specs.declared.alloc.Global.{Global};
+ghost use Rattle.std.specs.Prelude.{◌≡◌, ◌≢◌, ℕ, ◌+◌, ◌*◌, ◌<◌, ◌≤◌, ◌++◌, ◌∷◌, [], All, IfSome, List, MatchOption, OnErr, OnOk, Some, Vec, length, slice_get, slice_set};
+ghost use Rattle.resolver_clause_store.specs.ListPools.{PutsList};
+ghost use Rattle.resolver_clause_store.specs.ListPoolsView.{lists_in};
 ghost use Rattle.resolver_clause_store.specs.declared.literals.Literal.{Literal};
 ghost use Rattle.resolver_clause_store.specs.TrailView.{variable_count};
-ghost use Rattle.resolver_clause_store.specs.Unsatisfied.{IsFirstUnsatisfied};
-ghost use Rattle.resolver_clause_store.specs.Watches.{IsWatched, PutsList, blocker_of, is_watched, list_at, list_number, replaced, watch_at, with_blocker};
+ghost use Rattle.resolver_clause_store.specs.Unsatisfied.{IsFirstUnsatisfied, IsNextUnsatisfied};
+ghost use Rattle.resolver_clause_store.specs.Watches.{IsWatched, blocker_of, is_watched, list_at, list_number, replaced, watch_at, with_blocker};
 
 use crate::literals::{Literal, Variable};
 use crate::numbers::narrow;
 use crate::pairs::{WatchedPair, WatchedPairs};
+use crate::pool::ListPool;
 use crate::trail::Trail;
 use std::alloc::{AllocError, Global};
 
@@ -27,6 +28,13 @@ pub struct Watch {
     pub is_blocker_positive: bool,
     /// Whether the clause is known to have two literals.
     pub is_binary: bool,
+}
+
+/// A watch, and its place in a list.
+#[derive(Clone, Copy)]
+pub struct PlacedWatch {
+    pub place: usize,
+    pub watch: Watch,
 }
 
 impl Watch {
@@ -96,60 +104,32 @@ fn replaced(pair: WatchedPair, from: Literal, to: Literal) -> WatchedPair
     }
 }
 
-/// Adds empty lists, up to this many.
-fn add_lists(lists: &mut Vec<Vec<Watch>>, alloc: Global, count: usize) -> Result<(), AllocError>
-    requires { length lists.old.items ≤ count }
-    ensures size { OnOk result (length lists.new.items ≡ count) }
-    ensures same { (list : ℕ) → list_at lists.new.items list ≡ list_at lists.old.items list }
-{
-    'lists: while lists.len() < count {
-        lists.push(Vec::new(alloc))?;
-    }
-    Ok(())
-}
-
-/// Appends a watch to a list.
-fn push_at(lists: &mut Vec<Vec<Watch>>, list: usize, watch: Watch) -> Result<(), AllocError>
-    requires { list < length lists.old.items }
-    ensures ok { OnOk result (PutsList lists.old.items lists.new.items list (list_at lists.old.items list ++ watch ∷ [])) }
-    ensures err { OnErr result (PutsList lists.old.items lists.new.items list (list_at lists.old.items list)) }
-{
-    lists[list].push(watch)?;
-    Ok(())
-}
-
-/// Removes a watch from a list, and puts the last one in its place.
-fn take_at(lists: &mut Vec<Vec<Watch>>, list: usize, place: usize)
-    requires list { list < length lists.old.items }
-    requires place { place < length (list_at lists.old.items list) }
-    ensures { (any : Watch) → PutsList lists.old.items lists.new.items list (swap_remove (list_at lists.old.items list) place any) }
-{
-    let _taken = lists[list].swap_remove(place);
-}
-
-/// Changes the blocker of the watch at a place of a list.
-fn set_at(lists: &mut Vec<Vec<Watch>>, list: usize, place: usize, blocker: Literal)
-    requires list { list < length lists.old.items }
-    requires place { place < length (list_at lists.old.items list) }
-    ensures { PutsList lists.old.items lists.new.items list
-        (slice_set (list_at lists.old.items list) place (with_blocker (watch_at (list_at lists.old.items list) place) blocker)) }
-{
-    let watch = lists[list][place];
-    lists[list][place] = watch_of(watch.number, blocker, watch.is_binary);
-}
-
-/// Returns the first place from this one on whose blocker is not true, or the number of watches.
-fn first_unsatisfied(watches: &[Watch], trail: &Trail, from: usize) -> usize
+/// Returns the first watch from this place on whose blocker is not true.
+fn first_unsatisfied(watches: &[Watch], trail: &Trail, from: usize) -> Option<PlacedWatch>
     requires from { from ≤ length watches.now }
     requires below { All (λ (watch : Watch). watch.blocker_variable < variable_count trail.now) watches.now }
-    ensures { IsFirstUnsatisfied trail.now watches.now from result }
+    ensures { MatchOption result (IsFirstUnsatisfied trail.now watches.now from (length watches.now)) (IsNextUnsatisfied trail.now watches.now from) }
 {
     'watches: for place in from..watches.len() {
-        if !trail.is_true(watches[place].blocker()) {
-            return place;
+        let watch = watches[place];
+        if !trail.is_true(watch.blocker()) {
+            return Some(PlacedWatch { place, watch });
         }
     }
-    watches.len()
+    None
+}
+
+/// Returns the watch at a place, if there is one.
+fn watch_in(watches: &[Watch], place: usize) -> Option<PlacedWatch>
+    ensures { MatchOption result (length watches.now ≤ place) (λ placed. (placed.place ≡ place) × (slice_get watches.now place ≡ Some placed.watch)) }
+{
+    match watches.get(place) {
+        Some(watch) => Some(PlacedWatch {
+            place,
+            watch: *watch,
+        }),
+        None => None,
+    }
 }
 
 /// The clauses that watch each literal, and the two literals that each clause watches.
@@ -158,9 +138,9 @@ fn first_unsatisfied(watches: &[Watch], trail: &Trail, from: usize) -> usize
 /// none.
 #[derive(Drop)]
 pub struct Watches {
-    lists: Vec<Vec<Watch>>,
+    lists: ListPool<Watch>,
     pairs: WatchedPairs,
-    ghost watched: { IsWatched lists.items pairs },
+    ghost watched: { IsWatched (lists_in lists) pairs },
 }
 
 impl Watches {
@@ -176,13 +156,13 @@ impl Watches {
         ensures pairs { pairs_of result ≡ [] }
     {
         Watches {
-            lists: Vec::new(alloc),
+            lists: ListPool::new(alloc),
             pairs: WatchedPairs::new(alloc),
         }
     }
 
     /// Adds empty lists for the literals of new variables, up to this many variables.
-    pub fn grow(&mut self, alloc: Global, variables: usize) -> Result<(), AllocError>
+    pub fn grow(&mut self, variables: usize) -> Result<(), AllocError>
         requires { length (lists_of self.old) ≤ 2 * variables }
         ensures size { OnOk result (length (lists_of self.new) ≡ 2 * variables) }
         ensures lists { (list : ℕ) → list_at (lists_of self.new) list ≡ list_at (lists_of self.old) list }
@@ -191,7 +171,7 @@ impl Watches {
         let Some(count) = variables.checked_mul(2) else {
             return Err(AllocError);
         };
-        add_lists(&mut self.lists, alloc, count)?;
+        self.lists.grow(count)?;
         Ok(())
     }
 
@@ -210,33 +190,41 @@ impl Watches {
         self.pairs.at(number)
     }
 
-    /// Returns the number of clauses that watch a literal.
-    pub fn count(&self, literal: Literal) -> usize
-        requires { HasList self.now literal }
-        ensures { result ≡ length (list_at (lists_of self.now) (list_number literal)) }
+    /// Brings the list of a literal to hand, which changes no list. A long list is found sooner then.
+    pub fn bring(&mut self, literal: Literal)
+        requires { HasList self.old literal }
+        ensures lists { lists_of self.new ≡ lists_of self.old }
+        ensures pairs { pairs_of self.new ≡ pairs_of self.old }
     {
-        self.lists[list_number(literal)].len()
+        self.lists.bring(list_number(literal));
     }
 
-    /// Returns the clause at a place of a literal's list.
-    pub fn watch_at(&self, literal: Literal, place: usize) -> Watch
+    /// Returns the clause at a place of a literal's list, if the list is that long.
+    pub fn placed_at(&self, literal: Literal, place: usize) -> Option<PlacedWatch>
         requires list { HasList self.now literal }
-        requires place { place < length (list_at (lists_of self.now) (list_number literal)) }
-        ensures value { slice_get (list_at (lists_of self.now) (list_number literal)) place ≡ Some result }
-        ensures inside { result.number < length (pairs_of self.now) }
-        ensures watching { IsWatching (pairs_of self.now) result.number literal }
+        ensures value { MatchOption result (length (list_at (lists_of self.now) (list_number literal)) ≤ place)
+            (λ placed. (placed.place ≡ place) × (slice_get (list_at (lists_of self.now) (list_number literal)) place ≡ Some placed.watch)) }
+        ensures watching { IfSome result (λ placed. IsWatching (pairs_of self.now) placed.watch.number literal) }
     {
-        self.lists[list_number(literal)][place]
+        watch_in(self.lists.at(list_number(literal)), place)
     }
 
-    /// Returns the first place of a literal's list, from this one on, whose blocker is not true, or the number of watches in the list.
-    pub fn first_unsatisfied(&self, trail: &Trail, literal: Literal, from: usize) -> usize
+    /// Returns the first clause of a literal's list, from this place on, whose blocker is not true.
+    pub fn next_unsatisfied(
+        &self,
+        trail: &Trail,
+        literal: Literal,
+        from: usize,
+    ) -> Option<PlacedWatch>
         requires list { HasList self.now literal }
         requires from { from ≤ length (list_at (lists_of self.now) (list_number literal)) }
         requires below { All (λ (watch : Watch). watch.blocker_variable < variable_count trail.now) (list_at (lists_of self.now) (list_number literal)) }
-        ensures { IsFirstUnsatisfied trail.now (list_at (lists_of self.now) (list_number literal)) from result }
+        ensures value { MatchOption result
+            (IsFirstUnsatisfied trail.now (list_at (lists_of self.now) (list_number literal)) from (length (list_at (lists_of self.now) (list_number literal))))
+            (IsNextUnsatisfied trail.now (list_at (lists_of self.now) (list_number literal)) from) }
+        ensures watching { IfSome result (λ placed. IsWatching (pairs_of self.now) placed.watch.number literal) }
     {
-        first_unsatisfied(self.lists[list_number(literal)].as_slice(), trail, from)
+        first_unsatisfied(self.lists.at(list_number(literal)), trail, from)
     }
 
     /// Makes a clause watch one more literal, with `pair` as its new pair.
@@ -256,7 +244,7 @@ impl Watches {
         ensures kept { OnErr result (pairs_of self.new ≡ pairs_of self.old) }
     {
         let number = watch.number as usize;
-        push_at(&mut self.lists, list_number(literal), watch)?;
+        self.lists.push(list_number(literal), watch)?;
         self.pairs.set(number, pair);
         Ok(())
     }
@@ -341,47 +329,45 @@ impl Watches {
     }
 
     /// Replaces the blocker of a watch.
-    pub fn set_blocker(&mut self, literal: Literal, place: usize, blocker: Literal)
+    pub fn set_blocker(&mut self, literal: Literal, placed: &PlacedWatch, blocker: Literal)
         requires list { HasList self.old literal }
-        requires place { place < length (list_at (lists_of self.old) (list_number literal)) }
+        requires placed { slice_get (list_at (lists_of self.old) (list_number literal)) placed.now.place ≡ Some placed.now.watch }
         ensures set { PutsList (lists_of self.old) (lists_of self.new) (list_number literal)
-            (slice_set (list_at (lists_of self.old) (list_number literal)) place
-            (with_blocker (watch_at (list_at (lists_of self.old) (list_number literal)) place) blocker)) }
+            (slice_set (list_at (lists_of self.old) (list_number literal)) placed.now.place (with_blocker placed.now.watch blocker)) }
         ensures same { SameClauses (lists_of self.old) (lists_of self.new) }
         ensures pairs { pairs_of self.new ≡ pairs_of self.old }
-        ensures fit { (table : List (List Literal)) (watch : Watch) →
-            slice_get (list_at (lists_of self.old) (list_number literal)) place ≡ Some watch → Contains (clause_at table watch.number) blocker →
+        ensures fit { (table : List (List Literal)) → Contains (clause_at table placed.now.watch.number) blocker →
             FitClauses table (lists_of self.old) → FitClauses table (lists_of self.new) }
     {
-        set_at(&mut self.lists, list_number(literal), place, blocker);
+        let watch = watch_of(placed.watch.number, blocker, placed.watch.is_binary);
+        self.lists.set(list_number(literal), placed.place, watch);
     }
 
-    /// Makes the clause at a place of a literal's list watch another literal instead.
+    /// Makes a clause of a literal's list watch another literal instead.
     ///
-    /// The last clause of the list moves to that place.
+    /// The last clause of the list moves to its place.
     pub fn move_watch(
         &mut self,
         from: Literal,
-        place: usize,
+        placed: &PlacedWatch,
         to: Literal,
         blocker: Literal,
     ) -> Result<(), AllocError>
         requires from { HasList self.old from }
         requires to { HasList self.old to }
         requires differ { from ≢ to }
-        requires place { place < length (list_at (lists_of self.old) (list_number from)) }
-        ensures moved { OnOk result ((watch : Watch) → slice_get (list_at (lists_of self.old) (list_number from)) place ≡ Some watch →
-            MovesWatch (lists_of self.old) (lists_of self.new) (pairs_of self.old) (pairs_of self.new) from to place watch.number) }
+        requires placed { slice_get (list_at (lists_of self.old) (list_number from)) placed.now.place ≡ Some placed.now.watch }
+        ensures moved { OnOk result (MovesWatch (lists_of self.old) (lists_of self.new) (pairs_of self.old) (pairs_of self.new) from to
+            placed.now.place placed.now.watch.number) }
         ensures kept { OnErr result (pairs_of self.new ≡ pairs_of self.old) }
         ensures fit { OnOk result
-            ((table : List (List Literal)) (watch : Watch) → slice_get (list_at (lists_of self.old) (list_number from)) place ≡ Some watch →
-            Contains (clause_at table watch.number) blocker → FitClauses table (lists_of self.old) → FitClauses table (lists_of self.new)) }
+            ((table : List (List Literal)) → Contains (clause_at table placed.now.watch.number) blocker →
+            FitClauses table (lists_of self.old) → FitClauses table (lists_of self.new)) }
     {
-        let watch = self.watch_at(copied(&from), place);
-        let moved = watch_of(watch.number, blocker, watch.is_binary);
-        push_at(&mut self.lists, list_number(copied(&to)), moved)?;
-        take_at(&mut self.lists, list_number(copied(&from)), place);
-        let index = watch.number as usize;
+        let moved = watch_of(placed.watch.number, blocker, placed.watch.is_binary);
+        self.lists.push(list_number(copied(&to)), moved)?;
+        self.lists.take(list_number(copied(&from)), placed.place);
+        let index = placed.watch.number as usize;
         let pair = replaced(self.pairs.at(index), from, to);
         self.pairs.set(index, pair);
         Ok(())

@@ -86,7 +86,7 @@ module _ (old new : List (List Literal)) (longer : length old ≤ length new)
     rising = are.rising;
   }
 
-  fit-longer : (lists : List (Vec Watch Global)) → FitClauses old lists → FitClauses new lists
+  fit-longer : (lists : List (List Watch)) → FitClauses old lists → FitClauses new lists
   fit-longer lists fit = λ list k d below.
       let here = fit list k d below in
       let as_before = same _ (within-contains old _ _ here.own) in
@@ -462,7 +462,7 @@ module _ (table : List (List Literal)) (clause : List Literal) (pairs : List Wat
   added-before : (number : ℕ) → number < length pairs → clause_at added number ≡ clause_at table number
   added-before number less = clause_at-push table clause number (omega (arith, less, size))
 
-  watched-added : (pair : Option (Literal × Literal)) (old new : List (Vec Watch Global)) →
+  watched-added : (pair : Option (Literal × Literal)) (old new : List (List Watch)) →
       MatchOption pair (IsConstant clause) (λ two. AreApart clause two.0 two.1) → FitClauses added new → AreWatched table old pairs →
       AreWatched added new (pairs ++ pair_from pair ∷ [])
   watched-added pair old new chosen fit are = record {

@@ -241,7 +241,7 @@ sets table trail old watches falsified place v same pairs fit =
       };
     }
 
-pub stands-same : (old new : List (Vec Watch Global)) (list place number : ℕ) → SameClauses old new → StandsAt (list_at old list) place number →
+pub stands-same : (old new : List (List Watch)) (list place number : ℕ) → SameClauses old new → StandsAt (list_at old list) place number →
     StandsAt (list_at new list) place number
 stands-same old new list place number same stands =
     let inside : place < length (list_at new list) = omega (arith, slice_get_within (list_at old list) place stands.watch stands.is, same.count list) in
@@ -283,7 +283,7 @@ unwatched-none pair literal none watching = ⊎_elim
     (λ (s : pair.second ≡ Some literal). none-some _ (sym (ap (λ (p : WatchedPair). p.second) none) ∙ s))
     watching
 
-pub paired : (table : List (List Literal)) (lists : List (Vec Watch Global)) (pairs : List WatchedPair) (number : ℕ) (literal found : Literal) →
+pub paired : (table : List (List Literal)) (lists : List (List Watch)) (pairs : List WatchedPair) (number : ℕ) (literal found : Literal) →
     AreWatched table lists pairs → number < length pairs → IsWatching pairs number literal →
     ((other : Literal) → literal ≢ other → IsPair (pair_at pairs number) literal other → found ≡ other) → IsPaired pairs number literal found
 paired table lists pairs number literal found w inside watching only =

@@ -57,7 +57,7 @@ pub record WatchesTwo (pair : WatchedPair) : Type 0 where
   pub differ : first ≢ second
 
 -- All clauses of the table are attached. A clause watches two different literals of its own, or none if it does not have two.
-pub record AreWatched (table : List (List Literal)) (lists : List (Vec Watch Global)) (pairs : List WatchedPair) : Type 0 where
+pub record AreWatched (table : List (List Literal)) (lists : List (List Watch)) (pairs : List WatchedPair) : Type 0 where
   pub attached : length pairs ≡ length table
   pub own : (number : ℕ) (literal : Literal) → IsWatching pairs number literal → Contains (clause_at table number) literal
   pub two : (number : ℕ) → number < length pairs → (pair_at pairs number ≡ unwatched) ⊎ WatchesTwo (pair_at pairs number)

@@ -1,13 +1,11 @@
 use Rattle.std.proofs.Common.{List, subst, sym}
-use Rattle.std.specs.Prelude.{Vec}
-use Rattle.std.specs.declared.alloc.Global.{Global}
 use Rattle.resolver_clause_store.specs.declared.watches.Watch.{Watch}
 use Rattle.resolver_clause_store.specs.Watches.{FitClauses}
 use Rattle.resolver_clause_store.proofs.watches.Watches.add.Goals as goal
 
 pub returns-in_ok-add_none-in-None-clause-fit : goal.returns-in_ok-add_none-in-None-clause-fit
 returns-in_ok-add_none-in-None-clause-fit c =
-    λ table contains two has. subst (λ (ls : List (Vec Watch Global)). FitClauses table ls) (sym c.in_ok-add_none-in-None.ensures.lists) has
+    λ table contains two has. subst (λ (ls : List (List Watch)). FitClauses table ls) (sym c.in_ok-add_none-in-None.ensures.lists) has
 
 pub returns-in_ok-add_two-in-Some-clause-fit : goal.returns-in_ok-add_two-in-Some-clause-fit
 returns-in_ok-add_two-in-Some-clause-fit c = λ table contains two has.

@@ -1,4 +1,4 @@
-use Rattle.resolver_clause_store.proofs.WatchListLemmas.{kept-push, kept-same}
+use Rattle.resolver_clause_store.proofs.WatchListLemmas.{kept-push, kept-same, watched-more}
 use Rattle.resolver_clause_store.proofs.watches.Watches.add_none.Goals as goal
 
 pub returns-in_err-push-clause-kept : goal.returns-in_err-push-clause-kept
@@ -6,3 +6,6 @@ returns-in_err-push-clause-kept c = kept-same _ _ c.in_err-push.ensures.unchange
 
 pub returns-clause-kept : goal.returns-clause-kept
 returns-clause-kept c = kept-push _ _ _ c.in_ok-push.ensures.pairs
+
+pub invariant_of-self : goal.invariant_of-self
+invariant_of-self c = record { watched = watched-more _ _ _ _ c.push.ensures.pairs c.push.ensures.unchanged c.args.self.now.watched }

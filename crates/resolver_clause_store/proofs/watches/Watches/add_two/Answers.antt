@@ -1,10 +1,8 @@
 use Rattle.std.proofs.Common.{rules, ◌≡◌, ◌∙◌, List, ap, length, refl, subst, sym, true}
-use Rattle.std.specs.Prelude.{Vec}
-use Rattle.std.specs.declared.alloc.Global.{Global}
 use Rattle.resolver_clause_store.specs.declared.watches.Watch.{Watch}
 use Rattle.resolver_clause_store.specs.Formula.{clause_at}
 use Rattle.resolver_clause_store.specs.Watches.{FitClauses, watched_pair}
-use Rattle.resolver_clause_store.specs.WatchesView.{pairs_of}
+use Rattle.resolver_clause_store.specs.WatchesView.{lists_of, pairs_of}
 use Rattle.resolver_clause_store.proofs.WatchListLemmas.{added-inside, fit-push, contains-same, gains-first, gains-second, kept-push, kept-set, pairs-two}
 use Rattle.resolver_clause_store.proofs.watches.Watches.add_two.Goals as goal
 
@@ -28,8 +26,8 @@ returns-clause-pairs c =
 pub returns-clause-fit : goal.returns-clause-fit
 returns-clause-fit c = λ table has-first has-second two has.
     let last : c.in_ok-number.number ≡ length (pairs_of c.args.self.now) = search rules in
-    let start : FitClauses table c.add_none.new.self.lists.items =
-    subst (λ (ls : List (Vec Watch Global)). FitClauses table ls) (sym c.add_none.ensures.lists) has in
+    let start : FitClauses table (lists_of c.add_none.new.self) =
+    subst (λ (ls : List (List Watch)). FitClauses table ls) (sym c.add_none.ensures.lists) has in
     let size : c.args.is_binary ≡ true → length (clause_at table c.in_ok-number.number) ≡ 2 = λ e. ap (λ n. length (clause_at table n)) last ∙ two e in
     fit-push table _ _ _ _ (rw c.watch_of.ensures at c.in_ok-attach-2.ensures.lists)
     (record { own = contains-same table _ _ _ _ last refl has-first; two = size })
