@@ -16,7 +16,7 @@ use Rattle.resolver_clause_store.specs.declared.literals.Literal.{Literal}
 use Rattle.resolver_clause_store.specs.declared.trail.Trail.{Trail}
 use Rattle.resolver_clause_store.specs.Formula.{clause_at}
 use Rattle.resolver_clause_store.specs.Unsatisfied.{IsFirstUnsatisfied, IsNextUnsatisfied}
-use Rattle.resolver_clause_store.specs.declared.watches.PlacedWatch.{PlacedWatch}
+use Rattle.resolver_clause_store.specs.declared.placed_watch.PlacedWatch.{PlacedWatch}
 use Rattle.resolver_clause_store.specs.declared.watches.Watch.{Watch}
 use Rattle.resolver_clause_store.specs.declared.pairs.WatchedPair.{WatchedPair}
 use Rattle.resolver_clause_store.specs.ListPools.{PutsList}

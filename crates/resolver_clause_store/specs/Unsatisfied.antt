@@ -1,7 +1,7 @@
 -- The watches whose blockers are true.
 use Rattle.std.specs.Prelude.{◌≡◌, ◌≢◌, ℕ, ◌<◌, ◌≤◌, true, Some, List, length, slice_get}
 use Rattle.resolver_clause_store.specs.declared.trail.Trail.{Trail}
-use Rattle.resolver_clause_store.specs.declared.watches.PlacedWatch.{PlacedWatch}
+use Rattle.resolver_clause_store.specs.declared.placed_watch.PlacedWatch.{PlacedWatch}
 use Rattle.resolver_clause_store.specs.declared.watches.Watch.{Watch}
 use Rattle.resolver_clause_store.specs.TrailView.{literal_value}
 use Rattle.resolver_clause_store.specs.Watches.{blocker_of}

@@ -11,6 +11,7 @@ ghost use Rattle.resolver_clause_store.specs.Watches.{IsWatched, blocker_of, is_
 use crate::literals::{Literal, Variable};
 use crate::numbers::narrow;
 use crate::pairs::{WatchedPair, WatchedPairs};
+use crate::placed_watch::PlacedWatch;
 use crate::pool::ListPool;
 use crate::trail::Trail;
 use std::alloc::{AllocError, Global};
@@ -28,13 +29,6 @@ pub struct Watch {
     pub is_blocker_positive: bool,
     /// Whether the clause is known to have two literals.
     pub is_binary: bool,
-}
-
-/// A watch, and its place in a list.
-#[derive(Clone, Copy)]
-pub struct PlacedWatch {
-    pub place: usize,
-    pub watch: Watch,
 }
 
 impl Watch {

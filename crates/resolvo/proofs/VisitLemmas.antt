@@ -1,10 +1,9 @@
 -- The effect of a visit to a clause that watches a false literal.
 use Rattle.std.proofs.Common.{◌≡◌, ◌≢◌, ℕ, ◌+◌, ◌-◌, ◌<◌, ◌≤◌, ◌⊎◌, List, [], ◌∷◌, ◌++◌, length, get_or, Option, Some, None, Bool, true, false, inl, inr, refl}
 use Rattle.std.proofs.Common.{sym, ap, ◌∙◌, subst, ⊎_elim, arith}
-use Rattle.std.specs.Prelude.{All, Any, Contains, Vec, slice_get, if◌then◌else◌}
+use Rattle.std.specs.Prelude.{All, Any, Contains, IfSome, MatchOption, slice_get, if◌then◌else◌}
 use Rattle.std.specs.Bool.{beq}
 use Rattle.std.specs.Option.{option_eq, option_map_or}
-use Rattle.std.specs.declared.alloc.Global.{Global}
 use Rattle.std.proofs.lemmas.Bool.{cases_lt, cases_eq}
 use Rattle.std.proofs.lemmas.List.Elements.{All-append, All-cons, All-nil, Contains-append_left}
 use Rattle.std.proofs.lemmas.List.Quantifiers.{Any-push}
@@ -23,14 +22,15 @@ use Rattle.resolver_clause_store.proofs.TrailLemmas.{Keeps, gains-cases, keeps-g
 use Rattle.resolver_clause_store.proofs.WatchListLemmas.{fit-at}
 use Rattle.resolvo.specs.Propagators.{AreLate, AreWatched, Covers, IsExcused, IsNoted, IsPropagator, IsTrueAt, IsTrueBefore, WatchesTwo, attached_of, head_of}
 use Rattle.resolvo.specs.Propagators.{late_of, pending_of}
-use Rattle.resolvo.specs.Visits.{GoesOn, IsPaired, IsVisiting, Replaces, StandsAt, watchers_of}
-use Rattle.resolver_clause_store.specs.Unsatisfied.{IsFirstUnsatisfied}
+use Rattle.resolvo.specs.Visits.{GoesOn, IsPaired, IsPlaced, IsVisiting, Replaces, StandsAt, watchers_of}
+use Rattle.resolver_clause_store.specs.Unsatisfied.{IsFirstUnsatisfied, IsNextUnsatisfied}
 use Rattle.resolver_clause_store.specs.Watches.{FitClauses, IsPair, IsWatching, MovesWatch, SameClauses, list_at, list_number, pair_at, unwatched}
 use Rattle.resolver_clause_store.specs.Watches.{blocker_of, watched_pair}
 use Rattle.resolver_clause_store.specs.WatchesView.{lists_of, pairs_of}
 use Rattle.resolvo.specs.declared.propagator.Late.{Late}
 use Rattle.resolvo.specs.declared.propagator.Propagator.{Propagator}
 use Rattle.resolvo.specs.declared.propagator.visiting.FalseLiteral.{FalseLiteral}
+use Rattle.resolver_clause_store.specs.declared.PlacedWatch.{PlacedWatch}
 use Rattle.resolver_clause_store.specs.declared.Watch.{Watch}
 use Rattle.resolver_clause_store.specs.declared.WatchedPair.{WatchedPair}
 use Rattle.resolver_clause_store.specs.declared.Watches.{Watches}
@@ -207,6 +207,53 @@ passes-satisfied table trail it falsified from place top first v = record {
         (cases_lt k from);
   };
 }
+
+-- a watch that stands in the list
+pub stands-placed : (watchers : List Watch) (placed : PlacedWatch) → IsPlaced watchers placed → StandsAt watchers placed.place placed.watch.number
+stands-placed watchers placed is = record { watch = placed.watch; is = is; named = refl }
+
+-- the next watcher to visit
+pub next-unsatisfied : (trail : Trail) (it : Propagator) (falsified : FalseLiteral) (from : ℕ) (result : Option PlacedWatch) → falsified.is_top ≡ true →
+    MatchOption result (IsFirstUnsatisfied trail (watchers_of it falsified.literal) from (length (watchers_of it falsified.literal)))
+    (IsNextUnsatisfied trail (watchers_of it falsified.literal) from) → (table : List (List Literal)) → IsVisiting table trail it falsified from →
+    MatchOption result (IsVisiting table trail it falsified (length (watchers_of it falsified.literal))) (λ placed. IsVisiting table trail it falsified placed.place)
+next-unsatisfied trail it falsified from None top first table v = passes-satisfied table trail it falsified from _ top first v
+next-unsatisfied trail it falsified from (Some placed) top next table v = passes-satisfied table trail it falsified from placed.place top next.first v
+
+pub next-placed : (trail : Trail) (it : Propagator) (falsified : FalseLiteral) (from : ℕ) (result : Option PlacedWatch) →
+    from ≤ length (watchers_of it falsified.literal) → MatchOption result (length (watchers_of it falsified.literal) ≤ from)
+    (λ placed. (placed.place ≡ from) × (slice_get (watchers_of it falsified.literal) from ≡ Some placed.watch)) → (table : List (List Literal)) →
+    IsVisiting table trail it falsified from →
+    MatchOption result (IsVisiting table trail it falsified (length (watchers_of it falsified.literal))) (λ placed. IsVisiting table trail it falsified placed.place)
+next-placed trail it falsified from None within past table v = subst (λ n. IsVisiting table trail it falsified n) (omega (arith, within, past)) v
+next-placed trail it falsified from (Some placed) within is table v = subst (λ n. IsVisiting table trail it falsified n) (sym is.0) v
+
+pub is-unsatisfied : (trail : Trail) (watchers : List Watch) (from : ℕ) (result : Option PlacedWatch) →
+    MatchOption result (IsFirstUnsatisfied trail watchers from (length watchers)) (IsNextUnsatisfied trail watchers from) →
+    IfSome result (λ placed. IsPlaced watchers placed × (from ≤ placed.place))
+is-unsatisfied trail watchers from None first = tt
+is-unsatisfied trail watchers from (Some placed) next = (next.is, next.first.above)
+
+pub is-placed : (watchers : List Watch) (from : ℕ) (result : Option PlacedWatch) →
+    MatchOption result (length watchers ≤ from) (λ placed. (placed.place ≡ from) × (slice_get watchers from ≡ Some placed.watch)) →
+    IfSome result (λ placed. IsPlaced watchers placed × (from ≤ placed.place))
+is-placed watchers from None past = tt
+is-placed watchers from (Some placed) is = (ap (λ n. slice_get watchers n) is.0 ∙ is.1, omega (arith, is.0))
+
+-- the list of the literal was brought to hand
+pub brought : (table : List (List Literal)) (trail : Trail) (it : Propagator) (watches : Watches) → lists_of watches ≡ lists_of it.watches →
+    pairs_of watches ≡ pairs_of it.watches → IsPropagator table trail it → IsPropagator table trail (with_watches it watches)
+brought table trail it watches lists pairs is =
+    record {
+      lists = ap (λ (ls : List (List Watch)). length ls) lists ∙ is.lists;
+      watched = subst (λ (ls : List (List Watch)). AreWatched table ls (pairs_of watches)) (sym lists)
+          (subst (λ (ps : List WatchedPair). AreWatched table (lists_of it.watches) ps) (sym pairs) is.watched);
+      late = is.late;
+      pending = subst (λ (ps : List WatchedPair). All (λ n. n < length ps) (pending_of it)) (sym pairs) is.pending;
+      inside = subst (λ (ps : List WatchedPair). All (λ (l : Late). l.number < length ps) (late_of it)) (sym pairs) is.inside;
+      head = is.head;
+      covers = subst (λ (ps : List WatchedPair). Covers table trail ps (late_of it) (pending_of it) (head_of it)) (sym pairs) is.covers;
+    }
 
 -- a new blocker
 pub sets : (table : List (List Literal)) (trail : Trail) (old : Propagator) (watches : Watches) (falsified : FalseLiteral) (place : ℕ) →
@@ -469,10 +516,6 @@ pub own-other : (table : List (List Literal)) (trail : Trail) (it : Propagator) 
     IsPaired (pairs_of it.watches) number literal other → Contains (clause_at table number) other
 own-other table trail it number literal other is p = is.watched.own number other (paired-other (pairs_of it.watches) number literal other p.is)
 
-pub stands-own : (table : List (List Literal)) (list : List Watch) (place number : ℕ) (literal : Literal) → (stands : StandsAt list place number) →
-    Contains (clause_at table number) literal → Contains (clause_at table stands.watch.number) literal
-stands-own table list place number literal stands c = subst (λ k. Contains (clause_at table k) literal) (sym stands.named) c
-
 pub makes-true : (table : List (List Literal)) (trail : Trail) (number : ℕ) (literal : Literal) → Contains (clause_at table number) literal →
     literal_value trail literal ≡ Some true → IsSatisfied trail (clause_at table number)
 makes-true table trail number literal c is = any-contains (λ (l : Literal). literal_value trail l ≡ Some true) (clause_at table number) literal c is
@@ -482,15 +525,6 @@ pub tested-true : (o value : Option Bool) → true ≡ option_eq beq o (Some tru
 tested-true None value test same = absurd cc
 tested-true (Some true) value test same = sym same
 tested-true (Some false) value test same = absurd cc
-
-pub moves-stands : (table : List (List Literal)) (trail : Trail) (old : Propagator) (watches : Watches) (falsified : FalseLiteral) (place number : ℕ)
-    (other to : Literal) → IsVisiting table trail old falsified place → (stands : StandsAt (watchers_of old falsified.literal) place number) →
-    MovesWatch (lists_of old.watches) (lists_of watches) (pairs_of old.watches) (pairs_of watches) falsified.literal to place stands.watch.number →
-    FitClauses table (lists_of watches) → IsPaired (pairs_of old.watches) number falsified.literal other → Replaces trail (clause_at table number) other to →
-    GoesOn table trail old (with_watches old watches) falsified place place
-moves-stands table trail old watches falsified place number other to v stands m fit p r =
-    let M : ℕ → Type 0 = λ n. MovesWatch (lists_of old.watches) (lists_of watches) (pairs_of old.watches) (pairs_of watches) falsified.literal to place n in
-    moves table trail old watches falsified place number other to v (subst M stands.named m) fit p r (slice_get_within _ place stands.watch stands.is)
 
 -- a trail extends itself, and what extends a longer trail extends the first
 pub extends-same : (trail : Trail) → Extends trail trail

@@ -15,6 +15,7 @@ use Rattle.resolvo.specs.declared.propagator.Propagator.{Propagator}
 use Rattle.resolvo.specs.declared.propagator.visiting.FalseLiteral.{FalseLiteral}
 use Rattle.resolvo.specs.declared.propagator.visiting.WatchOutcome.{WatchOutcome}
 use Rattle.resolvo.specs.declared.propagator.visiting.WatchOutcome.TheVariants.{Next, Conflict}
+use Rattle.resolver_clause_store.specs.declared.PlacedWatch.{PlacedWatch}
 use Rattle.resolver_clause_store.specs.declared.Watch.{Watch}
 use Rattle.resolver_clause_store.specs.declared.WatchedPair.{WatchedPair}
 
@@ -72,6 +73,10 @@ pub record Replaces (trail : Trail) (clause : List Literal) (other to : Literal)
 pub record IsPaired (pairs : List WatchedPair) (number : ℕ) (one other : Literal) : Type 0 where
   pub is : IsPair (pair_at pairs number) one other
   pub differ : one ≢ other
+
+-- the watch stands at its place in the list
+abbrev pub IsPlaced : List Watch → PlacedWatch → Type 0
+IsPlaced watchers placed = slice_get watchers placed.place ≡ Some placed.watch
 
 -- the clause with this number is at this place
 pub record StandsAt (watchers : List Watch) (place number : ℕ) : Type 0 where

@@ -42,7 +42,7 @@ impl Propagator {
             IsPropagator table new self.new) }
         ensures pairs { pairs_of self.new.watches ≡ pairs_of self.old.watches }
     {
-        self.watches.grow(*self.late.allocator(), variables)?;
+        self.watches.grow(variables)?;
         Ok(())
     }
 

@@ -9,13 +9,13 @@ ghost use Rattle.resolver_clause_store.specs.declared.Watch.{Watch};
 ghost use Rattle.resolvo.specs.Propagation.{Extends, IsConflict, IsJustified, IsUnit};
 ghost use Rattle.resolver_clause_store.specs.Settled.{AllSettled};
 ghost use Rattle.resolvo.specs.Propagators.{IsAttached, IsPropagator};
-ghost use Rattle.resolvo.specs.Visits.{FailsAt, IsPaired, IsVisiting, WatchOutcomeIs, Replaces, StandsAt};
+ghost use Rattle.resolvo.specs.Visits.{FailsAt, IsPaired, IsPlaced, IsVisiting, WatchOutcomeIs, Replaces, StandsAt};
 ghost use Rattle.resolvo.specs.WatchedClauses.{AreOwned};
 ghost use Rattle.resolver_clause_store.specs.Watches.{IsPair, IsWatching};
 ghost use Rattle.resolver_clause_store.specs.WatchesView.{HasList, pairs_of};
 
 use super::{Late, Propagator};
-use resolver_clause_store::{Clauses, Literal, Trail, WatchedPair, clause, narrow};
+use resolver_clause_store::{Clauses, Literal, PlacedWatch, Trail, WatchedPair, clause, narrow};
 use std::alloc::AllocError;
 
 /// A literal that has become false.
@@ -30,9 +30,8 @@ pub struct FalseLiteral {
 /// A clause that watches the literal.
 #[derive(Clone, Copy)]
 pub struct Watcher {
-    number: usize,
-    /// Its place in the literal's list.
-    place: usize,
+    /// Its watch in the literal's list.
+    placed: PlacedWatch,
     /// Another literal of the clause: the other one that it watches, or the blocker.
     other: Literal,
 }
@@ -163,18 +162,17 @@ impl Propagator {
         trail: &Trail,
         table: &Clauses,
         falsified: &FalseLiteral,
-        place: usize,
-        number: usize,
+        placed: &PlacedWatch,
     ) -> Result<WatchOutcome, AllocError>
-        requires visiting { IsVisiting table.now trail.now self.old falsified.now place }
-        requires stands { StandsAt (watchers_of self.old falsified.now.literal) place number }
-        requires inside { number < attached_of self.old }
-        requires satisfied { IsSatisfied trail.now (clause_at table.now number) }
-        ensures outcome { IfOk result (WatchOutcomeIs table.now trail.now self.old self.new falsified.now place) }
+        requires visiting { IsVisiting table.now trail.now self.old falsified.now placed.now.place }
+        requires stands { StandsAt (watchers_of self.old falsified.now.literal) placed.now.place placed.now.watch.number }
+        requires inside { placed.now.watch.number < attached_of self.old }
+        requires satisfied { IsSatisfied trail.now (clause_at table.now placed.now.watch.number) }
+        ensures outcome { IfOk result (WatchOutcomeIs table.now trail.now self.old self.new falsified.now placed.now.place) }
         ensures refused { OnErr result (AreOwned table.now (pairs_of self.new.watches)) }
     {
-        self.note(trail, number, falsified)?;
-        Ok(WatchOutcome::Next(place + 1))
+        self.note(trail, placed.watch.number as usize, falsified)?;
+        Ok(WatchOutcome::Next(placed.place + 1))
     }
 
     /// Passes by a clause whose other watched literal is true. That literal becomes the blocker.
@@ -185,17 +183,17 @@ impl Propagator {
         falsified: &FalseLiteral,
         watcher: &Watcher,
     ) -> Result<WatchOutcome, AllocError>
-        requires visiting { IsVisiting table.now trail.now self.old falsified.now watcher.now.place }
-        requires stands { StandsAt (watchers_of self.old falsified.now.literal) watcher.now.place watcher.now.number }
-        requires inside { watcher.now.number < attached_of self.old }
-        requires pair { IsPaired (pairs_of self.old.watches) watcher.now.number falsified.now.literal watcher.now.other }
+        requires visiting { IsVisiting table.now trail.now self.old falsified.now watcher.now.placed.place }
+        requires stands { IsPlaced (watchers_of self.old falsified.now.literal) watcher.now.placed }
+        requires inside { watcher.now.placed.watch.number < attached_of self.old }
+        requires pair { IsPaired (pairs_of self.old.watches) watcher.now.placed.watch.number falsified.now.literal watcher.now.other }
         requires satisfied { literal_value trail.now watcher.now.other ≡ Some true }
-        ensures outcome { IfOk result (WatchOutcomeIs table.now trail.now self.old self.new falsified.now watcher.now.place) }
+        ensures outcome { IfOk result (WatchOutcomeIs table.now trail.now self.old self.new falsified.now watcher.now.placed.place) }
         ensures refused { OnErr result (AreOwned table.now (pairs_of self.new.watches)) }
     {
         self.watches
-            .set_blocker(falsified.literal, watcher.place, watcher.other);
-        let outcome = self.pass_by(trail, table, falsified, watcher.place, watcher.number)?;
+            .set_blocker(falsified.literal, &watcher.placed, watcher.other);
+        let outcome = self.pass_by(trail, table, falsified, &watcher.placed)?;
         Ok(outcome)
     }
 
@@ -207,14 +205,14 @@ impl Propagator {
         falsified: &FalseLiteral,
         watcher: &Watcher,
     ) -> Result<WatchOutcome, AllocError>
-        requires visiting { IsVisiting table.now trail.old self.old falsified.now watcher.now.place }
+        requires visiting { IsVisiting table.now trail.old self.old falsified.now watcher.now.placed.place }
         requires justified { IsJustified table.now trail.old }
-        requires stands { StandsAt (watchers_of self.old falsified.now.literal) watcher.now.place watcher.now.number }
-        requires inside { watcher.now.number < attached_of self.old }
-        requires pair { IsPaired (pairs_of self.old.watches) watcher.now.number falsified.now.literal watcher.now.other }
-        requires unit { IsUnit trail.old watcher.now.other (clause_at table.now watcher.now.number) }
+        requires stands { IsPlaced (watchers_of self.old falsified.now.literal) watcher.now.placed }
+        requires inside { watcher.now.placed.watch.number < attached_of self.old }
+        requires pair { IsPaired (pairs_of self.old.watches) watcher.now.placed.watch.number falsified.now.literal watcher.now.other }
+        requires unit { IsUnit trail.old watcher.now.other (clause_at table.now watcher.now.placed.watch.number) }
         requires not_true { literal_value trail.old watcher.now.other ≢ Some true }
-        ensures outcome { IfOk result (WatchOutcomeIs table.now trail.new self.old self.new falsified.now watcher.now.place) }
+        ensures outcome { IfOk result (WatchOutcomeIs table.now trail.new self.old self.new falsified.now watcher.now.placed.place) }
         ensures refused { OnErr result (AreOwned table.now (pairs_of self.new.watches)) }
         ensures justified { IsJustified table.now trail.new }
         ensures extends { Extends trail.old trail.new }
@@ -222,10 +220,11 @@ impl Propagator {
         ensures open_ones { open_count trail.new ≤ open_count trail.old }
         ensures total { open_count trail.new + length_of trail.new ≡ open_count trail.old + length_of trail.old }
     {
+        let number = watcher.placed.watch.number as usize;
         match trail.value(watcher.other) {
-            Some(_) => Ok(WatchOutcome::Conflict(watcher.number)),
+            Some(_) => Ok(WatchOutcome::Conflict(number)),
             None => {
-                trail.force(watcher.other, watcher.number)?;
+                trail.force(watcher.other, number)?;
                 let outcome = self.pass_by_other(trail, table, falsified, watcher)?;
                 Ok(outcome)
             }
@@ -241,13 +240,13 @@ impl Propagator {
         falsified: &FalseLiteral,
         watcher: &Watcher,
     ) -> Result<WatchOutcome, AllocError>
-        requires visiting { IsVisiting table.now trail.old self.old falsified.now watcher.now.place }
+        requires visiting { IsVisiting table.now trail.old self.old falsified.now watcher.now.placed.place }
         requires justified { IsJustified table.now trail.old }
-        requires stands { StandsAt (watchers_of self.old falsified.now.literal) watcher.now.place watcher.now.number }
-        requires inside { watcher.now.number < attached_of self.old }
-        requires pair { IsPaired (pairs_of self.old.watches) watcher.now.number falsified.now.literal watcher.now.other }
+        requires stands { IsPlaced (watchers_of self.old falsified.now.literal) watcher.now.placed }
+        requires inside { watcher.now.placed.watch.number < attached_of self.old }
+        requires pair { IsPaired (pairs_of self.old.watches) watcher.now.placed.watch.number falsified.now.literal watcher.now.other }
         requires not_true { literal_value trail.old watcher.now.other ≢ Some true }
-        ensures outcome { IfOk result (WatchOutcomeIs table.now trail.new self.old self.new falsified.now watcher.now.place) }
+        ensures outcome { IfOk result (WatchOutcomeIs table.now trail.new self.old self.new falsified.now watcher.now.placed.place) }
         ensures refused { OnErr result (AreOwned table.now (pairs_of self.new.watches)) }
         ensures justified { IsJustified table.now trail.new }
         ensures extends { Extends trail.old trail.new }
@@ -255,12 +254,12 @@ impl Propagator {
         ensures open_ones { open_count trail.new ≤ open_count trail.old }
         ensures total { open_count trail.new + length_of trail.new ≡ open_count trail.old + length_of trail.old }
     {
-        let literals = clause(table, watcher.number);
+        let literals = clause(table, watcher.placed.watch.number as usize);
         match replacement(trail, literals, &falsified.literal, &watcher.other) {
             Some(to) => {
                 self.watches
-                    .move_watch(falsified.literal, watcher.place, to, watcher.other)?;
-                Ok(WatchOutcome::Next(watcher.place))
+                    .move_watch(falsified.literal, &watcher.placed, to, watcher.other)?;
+                Ok(WatchOutcome::Next(watcher.placed.place))
             }
             None => {
                 let outcome = self.force_other(trail, table, falsified, watcher)?;
@@ -275,15 +274,14 @@ impl Propagator {
         trail: &mut Trail,
         table: &Clauses,
         falsified: &FalseLiteral,
-        place: usize,
-        number: usize,
+        placed: &PlacedWatch,
     ) -> Result<WatchOutcome, AllocError>
-        requires visiting { IsVisiting table.now trail.old self.old falsified.now place }
+        requires visiting { IsVisiting table.now trail.old self.old falsified.now placed.now.place }
         requires justified { IsJustified table.now trail.old }
-        requires stands { StandsAt (watchers_of self.old falsified.now.literal) place number }
-        requires inside { number < attached_of self.old }
-        requires watching { IsWatching (pairs_of self.old.watches) number falsified.now.literal }
-        ensures outcome { IfOk result (WatchOutcomeIs table.now trail.new self.old self.new falsified.now place) }
+        requires stands { IsPlaced (watchers_of self.old falsified.now.literal) placed.now }
+        requires inside { placed.now.watch.number < attached_of self.old }
+        requires watching { IsWatching (pairs_of self.old.watches) placed.now.watch.number falsified.now.literal }
+        ensures outcome { IfOk result (WatchOutcomeIs table.now trail.new self.old self.new falsified.now placed.now.place) }
         ensures refused { OnErr result (AreOwned table.now (pairs_of self.new.watches)) }
         ensures justified { IsJustified table.now trail.new }
         ensures extends { Extends trail.old trail.new }
@@ -291,10 +289,9 @@ impl Propagator {
         ensures open_ones { open_count trail.new ≤ open_count trail.old }
         ensures total { open_count trail.new + length_of trail.new ≡ open_count trail.old + length_of trail.old }
     {
-        let pair = self.watches.pair(number);
+        let pair = self.watches.pair(placed.watch.number as usize);
         let watcher = Watcher {
-            number,
-            place,
+            placed: *placed,
             other: other_watched(&pair, &falsified.literal),
         };
         if trail.is_true(watcher.other) {
@@ -313,15 +310,15 @@ impl Propagator {
         falsified: &FalseLiteral,
         binary: &Watcher,
     ) -> Result<WatchOutcome, AllocError>
-        requires visiting { IsVisiting table.now trail.old self.old falsified.now binary.now.place }
+        requires visiting { IsVisiting table.now trail.old self.old falsified.now binary.now.placed.place }
         requires justified { IsJustified table.now trail.old }
-        requires stands { StandsAt (watchers_of self.old falsified.now.literal) binary.now.place binary.now.number }
-        requires inside { binary.now.number < attached_of self.old }
-        requires watching { IsWatching (pairs_of self.old.watches) binary.now.number falsified.now.literal }
-        requires own { Contains (clause_at table.now binary.now.number) binary.now.other }
-        requires two { length (clause_at table.now binary.now.number) ≡ 2 }
+        requires stands { IsPlaced (watchers_of self.old falsified.now.literal) binary.now.placed }
+        requires inside { binary.now.placed.watch.number < attached_of self.old }
+        requires watching { IsWatching (pairs_of self.old.watches) binary.now.placed.watch.number falsified.now.literal }
+        requires own { Contains (clause_at table.now binary.now.placed.watch.number) binary.now.other }
+        requires two { length (clause_at table.now binary.now.placed.watch.number) ≡ 2 }
         requires free { literal_value trail.old binary.now.other ≡ None }
-        ensures outcome { IfOk result (WatchOutcomeIs table.now trail.new self.old self.new falsified.now binary.now.place) }
+        ensures outcome { IfOk result (WatchOutcomeIs table.now trail.new self.old self.new falsified.now binary.now.placed.place) }
         ensures refused { OnErr result (AreOwned table.now (pairs_of self.new.watches)) }
         ensures justified { IsJustified table.now trail.new }
         ensures extends { Extends trail.old trail.new }
@@ -329,44 +326,54 @@ impl Propagator {
         ensures open_ones { open_count trail.new ≤ open_count trail.old }
         ensures total { open_count trail.new + length_of trail.new ≡ open_count trail.old + length_of trail.old }
     {
-        trail.force(binary.other, binary.number)?;
-        let outcome = self.pass_by(trail, table, falsified, binary.place, binary.number)?;
+        trail.force(binary.other, binary.placed.watch.number as usize)?;
+        let outcome = self.pass_by(trail, table, falsified, &binary.placed)?;
         Ok(outcome)
     }
 
-    /// Returns the place of the next watcher to visit, from this one on.
+    /// Returns the next watcher to visit, from this place on.
     ///
     /// If the literal became false at the highest level, a watcher whose blocker is true needs no visit.
-    fn next_place(&self, trail: &Trail, falsified: &FalseLiteral, from: usize) -> usize
+    #[inline(always)]
+    fn next_watcher(
+        &self,
+        trail: &Trail,
+        falsified: &FalseLiteral,
+        from: usize,
+    ) -> Option<PlacedWatch>
         requires list { HasList self.now.watches falsified.now.literal }
         requires from { from ≤ length (watchers_of self.now falsified.now.literal) }
         requires below { All (λ (watch : Watch). watch.blocker_variable < variable_count trail.now) (watchers_of self.now falsified.now.literal) }
-        ensures above { from ≤ result }
-        ensures within { result ≤ length (watchers_of self.now falsified.now.literal) }
+        ensures placed { IfSome result (λ placed. IsPlaced (watchers_of self.now falsified.now.literal) placed) }
+        ensures watching { IfSome result (λ placed. IsWatching (pairs_of self.now.watches) placed.watch.number falsified.now.literal) }
+        ensures above { IfSome result (λ placed. from ≤ placed.place) }
         ensures visiting { (table : List (List Literal)) → IsVisiting table trail.now self.now falsified.now from →
-            IsVisiting table trail.now self.now falsified.now result }
+            MatchOption result (IsVisiting table trail.now self.now falsified.now (length (watchers_of self.now falsified.now.literal)))
+            (λ placed. IsVisiting table trail.now self.now falsified.now placed.place) }
     {
         if falsified.is_top {
             return self
                 .watches
-                .first_unsatisfied(trail, falsified.literal, from);
+                .next_unsatisfied(trail, falsified.literal, from);
         }
-        from
+        self.watches.placed_at(falsified.literal, from)
     }
 
-    /// Visits the watcher at a place in the list of a literal that has become false.
+    /// Visits a watcher in the list of a literal that has become false.
     #[inline(always)]
     fn visit_watcher(
         &mut self,
         trail: &mut Trail,
         table: &Clauses,
         falsified: &FalseLiteral,
-        place: usize,
+        placed: &PlacedWatch,
     ) -> Result<WatchOutcome, AllocError>
-        requires visiting { IsVisiting table.now trail.old self.old falsified.now place }
+        requires visiting { IsVisiting table.now trail.old self.old falsified.now placed.now.place }
         requires justified { IsJustified table.now trail.old }
-        requires place { place < length (watchers_of self.old falsified.now.literal) }
-        ensures outcome { IfOk result (WatchOutcomeIs table.now trail.new self.old self.new falsified.now place) }
+        requires stands { IsPlaced (watchers_of self.old falsified.now.literal) placed.now }
+        requires inside { placed.now.watch.number < attached_of self.old }
+        requires watching { IsWatching (pairs_of self.old.watches) placed.now.watch.number falsified.now.literal }
+        ensures outcome { IfOk result (WatchOutcomeIs table.now trail.new self.old self.new falsified.now placed.now.place) }
         ensures refused { OnErr result (AreOwned table.now (pairs_of self.new.watches)) }
         ensures justified { IsJustified table.now trail.new }
         ensures extends { Extends trail.old trail.new }
@@ -374,22 +381,20 @@ impl Propagator {
         ensures open_ones { open_count trail.new ≤ open_count trail.old }
         ensures total { open_count trail.new + length_of trail.new ≡ open_count trail.old + length_of trail.old }
     {
-        let watch = self.watches.watch_at(falsified.literal, place);
         let watcher = Watcher {
-            number: watch.number as usize,
-            place,
-            other: watch.blocker(),
+            placed: *placed,
+            other: placed.watch.blocker(),
         };
         let value = trail.value(watcher.other);
         if value == Some(true) {
-            let outcome = self.pass_by(trail, table, falsified, place, watcher.number)?;
+            let outcome = self.pass_by(trail, table, falsified, placed)?;
             return Ok(outcome);
         }
-        if is_forced(watch.is_binary, value) {
+        if is_forced(placed.watch.is_binary, value) {
             let outcome = self.force_binary(trail, table, falsified, &watcher)?;
             return Ok(outcome);
         }
-        let outcome = self.visit_pair(trail, table, falsified, place, watcher.number)?;
+        let outcome = self.visit_pair(trail, table, falsified, placed)?;
         Ok(outcome)
     }
 
@@ -413,10 +418,11 @@ impl Propagator {
         ensures total { open_count trail.new + length_of trail.new ≡ open_count trail.old + length_of trail.old }
     {
         let falsified = self.false_literal(trail);
-        let mut place = self.next_place(trail, &falsified, 0);
-        'watchers: while place < self.watches.count(falsified.literal) {
-            match self.visit_watcher(trail, table, &falsified, place)? {
-                WatchOutcome::Next(next) => place = self.next_place(trail, &falsified, next),
+        self.watches.bring(falsified.literal);
+        let mut place = 0;
+        'watchers: while let Some(placed) = self.next_watcher(trail, &falsified, place) {
+            match self.visit_watcher(trail, table, &falsified, &placed)? {
+                WatchOutcome::Next(next) => place = next,
                 WatchOutcome::Conflict(number) => return Ok(Some(number)),
             }
         }

@@ -2,7 +2,7 @@ use Rattle.std.proofs.Common.{arith, Some, false, subst, ◌≡◌, refl}
 use Rattle.std.proofs.lemmas.Option.{slice_get_within}
 use Rattle.resolver_clause_store.specs.TrailView.{literal_value}
 use Rattle.resolver_clause_store.specs.declared.Literal.{Literal}
-use Rattle.resolvo.proofs.VisitLemmas.{moves-stands, own-other, stands-own, extends-same}
+use Rattle.resolvo.proofs.VisitLemmas.{moves, own-other, extends-same}
 use Rattle.resolvo.proofs.TwoLiteralLemmas.{false-now, own-false}
 use Rattle.resolvo.proofs.WatchedLemmas.{owned-of, owned-same, refused-any}
 use Rattle.std.proofs.lemmas.Result.{IfOk-from_err}
@@ -12,11 +12,10 @@ pub returns-in_ok-move_watch-in-Some : goal.returns-in_ok-move_watch-in-Some
 returns-in_ok-move_watch-in-Some c =
     record {
       outcome = let was = c.requires.visiting.propagator in
-          let stands = c.requires.stands in
           let moved = c.in_ok-move_watch-in-Some.ensures in
-          let own = stands-own _ _ _ _ _ stands (own-other _ _ _ _ _ _ was c.requires.pair) in
-          moves-stands _ _ _ _ _ _ _ _ _ c.requires.visiting stands (moved.moved stands.watch stands.is)
-          (moved.fit _ stands.watch stands.is own was.watched.fit) c.requires.pair (rw c.clause-literals.ensures at c.in-Some.ensures);
+          let own = own-other _ _ _ _ _ _ was c.requires.pair in
+          moves _ _ _ _ _ _ _ _ _ c.requires.visiting moved.moved (moved.fit _ own was.watched.fit) c.requires.pair
+          (rw c.clause-literals.ensures at c.in-Some.ensures) (slice_get_within _ _ _ c.requires.stands);
       refused = tt;
       justified = c.requires.justified;
       extends = extends-same c.args.trail.now;
@@ -74,10 +73,7 @@ returns-in_err-outcome-in-None c =
     }
 
 pub replacement-requires-clause-below : goal.replacement-requires-clause-below
-replacement-requires-clause-below c = rw c.clause-literals.ensures (c.requires.visiting.below c.args.watcher.now.number)
-
-pub move_watch-requires-clause-place : goal.move_watch-requires-clause-place
-move_watch-requires-clause-place c = slice_get_within _ c.args.watcher.now.place c.requires.stands.watch c.requires.stands.is
+replacement-requires-clause-below c = rw c.clause-literals.ensures (c.requires.visiting.below c.args.watcher.now.placed.watch.number)
 
 pub move_watch-requires-clause-differ : goal.move_watch-requires-clause-differ
 move_watch-requires-clause-differ c = λ same.

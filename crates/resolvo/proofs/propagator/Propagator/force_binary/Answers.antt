@@ -2,7 +2,7 @@ use Rattle.std.proofs.Common.{arith}
 use Rattle.resolver_clause_store.proofs.TrailLemmas.{value-none}
 use Rattle.resolvo.proofs.AttachingLemmas.{gained-satisfied}
 use Rattle.resolvo.proofs.JustifiedLemmas.{justified-gains, justified-same}
-use Rattle.resolvo.proofs.VisitLemmas.{below-contains, forces}
+use Rattle.resolvo.proofs.VisitLemmas.{below-contains, forces, stands-placed}
 use Rattle.resolvo.proofs.TwoLiteralLemmas.{binary-unit}
 use Rattle.resolvo.proofs.WatchedLemmas.{owned-of, refused-any}
 use Rattle.resolvo.proofs.propagator.Propagator.force_binary.Goals as goal
@@ -35,3 +35,6 @@ returns-clause-justified c =
     justified-gains _ _ _ _ _ _ c.requires.justified c.in_ok-force.ensures.ok (value-none _ _ c.requires.free)
     (omega (arith, c.requires.inside, was.watched.attached)) c.requires.own
     (binary-unit _ _ _ _ _ c.requires.visiting _ _ c.requires.watching c.requires.own c.requires.two c.requires.free)
+
+pub pass_by-requires-clause-stands : goal.pass_by-requires-clause-stands
+pass_by-requires-clause-stands c = stands-placed _ _ c.requires.stands

@@ -1,22 +1,21 @@
-use Rattle.resolvo.proofs.VisitLemmas.{makes-true, own-other, sets, stands-own, stands-same}
+use Rattle.resolvo.proofs.VisitLemmas.{makes-true, own-other, sets, stands-placed, stands-same}
 use Rattle.std.proofs.Common.{arith}
 use Rattle.std.proofs.lemmas.Grind.{common_steps}
-use Rattle.std.proofs.lemmas.Option.{slice_get_within}
 use Rattle.resolvo.proofs.propagator.Propagator.pass_by_other.Goals as goal
 
 pub pass_by-requires-clause-visiting : goal.pass_by-requires-clause-visiting
 pass_by-requires-clause-visiting c =
     let was = c.requires.visiting.propagator in
-    let own = stands-own _ _ _ _ _ c.requires.stands (own-other _ _ _ _ _ _ was c.requires.pair) in
+    let own = own-other _ _ _ _ _ _ was c.requires.pair in
     sets _ _ _ _ _ _ c.requires.visiting c.set_blocker.ensures.same c.set_blocker.ensures.pairs
-    (c.set_blocker.ensures.fit _ c.requires.stands.watch c.requires.stands.is own was.watched.fit)
+    (c.set_blocker.ensures.fit _ own was.watched.fit)
 
 pub pass_by-requires-clause-stands : goal.pass_by-requires-clause-stands
-pass_by-requires-clause-stands c = stands-same _ _ _ _ _ c.set_blocker.ensures.same c.requires.stands
+pass_by-requires-clause-stands c = stands-same _ _ _ _ _ c.set_blocker.ensures.same (stands-placed _ _ c.requires.stands)
 
 pub pass_by-requires-clause-satisfied : goal.pass_by-requires-clause-satisfied
 pass_by-requires-clause-satisfied c =
-    makes-true c.args.table.now c.args.trail.now c.args.watcher.now.number c.args.watcher.now.other
+    makes-true c.args.table.now c.args.trail.now c.args.watcher.now.placed.watch.number c.args.watcher.now.other
     (own-other _ _ _ _ _ _ c.requires.visiting.propagator c.requires.pair) c.requires.satisfied
 
 pub returns-clause-refused : goal.returns-clause-refused
@@ -27,6 +26,3 @@ returns-clause-outcome c = grind (arith, common_steps)
 
 pub set_blocker-requires-clause-list : goal.set_blocker-requires-clause-list
 set_blocker-requires-clause-list c = grind (arith, common_steps)
-
-pub set_blocker-requires-clause-place : goal.set_blocker-requires-clause-place
-set_blocker-requires-clause-place c = slice_get_within _ c.args.watcher.now.place c.requires.stands.watch c.requires.stands.is

@@ -1,28 +1,28 @@
 use Rattle.std.proofs.Common.{arith, sym, ◌∙◌, refl}
 use Rattle.resolver_clause_store.proofs.WatchListLemmas.{fit-at}
-use Rattle.resolvo.proofs.VisitLemmas.{below-contains, makes-true, tested-true, extends-same}
+use Rattle.resolvo.proofs.VisitLemmas.{below-contains, makes-true, stands-placed, tested-true, extends-same}
 use Rattle.resolvo.proofs.WatchedLemmas.{refused-any}
 use Rattle.std.proofs.lemmas.Result.{IfOk-from_err}
 use Rattle.resolvo.proofs.propagator.Propagator.visit_watcher.Goals as goal
 
 pub value-value-requires : goal.value-value-requires
 value-value-requires c =
-    below-contains c.args.table.now _ c.watch_at-watch.result.number c.blocker.result c.requires.visiting.below
-    (rw c.blocker.ensures (fit-at _ _ _ _ _ c.requires.visiting.propagator.watched.fit c.watch_at-watch.ensures.value).own)
+    below-contains c.args.table.now _ c.args.placed.now.watch.number c.blocker.result c.requires.visiting.below
+    (rw c.blocker.ensures (fit-at _ _ _ _ _ c.requires.visiting.propagator.watched.fit c.requires.stands).own)
 
 pub pass_by-requires-clause-satisfied : goal.pass_by-requires-clause-satisfied
 pass_by-requires-clause-satisfied c =
-    makes-true c.args.table.now c.args.trail.now c.watch_at-watch.result.number c.blocker.result
-    (rw c.blocker.ensures (fit-at _ _ _ _ _ c.requires.visiting.propagator.watched.fit c.watch_at-watch.ensures.value).own)
+    makes-true c.args.table.now c.args.trail.now c.args.placed.now.watch.number c.blocker.result
+    (rw c.blocker.ensures (fit-at _ _ _ _ _ c.requires.visiting.propagator.watched.fit c.requires.stands).own)
     (tested-true _ _ c.if-eq.ensures c.value-value.ensures)
 
 pub force_binary-requires-clause-own : goal.force_binary-requires-clause-own
 force_binary-requires-clause-own c =
-    rw c.blocker.ensures (fit-at _ _ _ _ _ c.requires.visiting.propagator.watched.fit c.watch_at-watch.ensures.value).own
+    rw c.blocker.ensures (fit-at _ _ _ _ _ c.requires.visiting.propagator.watched.fit c.requires.stands).own
 
 pub force_binary-requires-clause-two : goal.force_binary-requires-clause-two
 force_binary-requires-clause-two c =
-    (fit-at _ _ _ _ _ c.requires.visiting.propagator.watched.fit c.watch_at-watch.ensures.value).two
+    (fit-at _ _ _ _ _ c.requires.visiting.propagator.watched.fit c.requires.stands).two
     (c.is_forced.ensures c.if-is_forced.true).0
 
 pub returns : goal.returns
@@ -99,3 +99,6 @@ returns-in_err-outcome-3 c =
       open_ones = c.visit_pair.ensures.open_ones;
       total = c.visit_pair.ensures.total;
     }
+
+pub pass_by-requires-clause-stands : goal.pass_by-requires-clause-stands
+pass_by-requires-clause-stands c = stands-placed _ _ c.requires.stands
