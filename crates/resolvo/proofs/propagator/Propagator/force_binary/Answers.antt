@@ -37,4 +37,4 @@ returns-clause-justified c =
     (binary-unit _ _ _ _ _ c.requires.visiting _ _ c.requires.watching c.requires.own c.requires.two c.requires.free)
 
 pub pass_by-requires-clause-stands : goal.pass_by-requires-clause-stands
-pass_by-requires-clause-stands c = stands-placed _ _ c.requires.stands
+pass_by-requires-clause-stands c = stands-placed _ c.args.binary.now.placed c.requires.stands

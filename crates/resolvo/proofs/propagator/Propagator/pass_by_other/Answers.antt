@@ -11,7 +11,7 @@ pass_by-requires-clause-visiting c =
     (c.set_blocker.ensures.fit _ own was.watched.fit)
 
 pub pass_by-requires-clause-stands : goal.pass_by-requires-clause-stands
-pass_by-requires-clause-stands c = stands-same _ _ _ _ _ c.set_blocker.ensures.same (stands-placed _ _ c.requires.stands)
+pass_by-requires-clause-stands c = stands-same _ _ _ _ _ c.set_blocker.ensures.same (stands-placed _ c.args.watcher.now.placed c.requires.stands)
 
 pub pass_by-requires-clause-satisfied : goal.pass_by-requires-clause-satisfied
 pass_by-requires-clause-satisfied c =

@@ -8,6 +8,7 @@ use Rattle.resolvo.proofs.propagator.Propagator.visit.Given as goal
 abbrev pub invariant-watchers : goal.invariant-watchers
 invariant-watchers l = record {
   visiting : IsVisiting l.table l.trail l.self l.falsified l.place;
+  within : l.place ≤ length (watchers_of l.self l.falsified.literal);
   head : head_of l.self ≡ head_of l.initial.self;
   justified : IsJustified l.table l.trail;
   extends : Extends l.initial.trail l.trail;

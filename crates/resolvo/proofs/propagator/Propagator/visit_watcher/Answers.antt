@@ -101,4 +101,4 @@ returns-in_err-outcome-3 c =
     }
 
 pub pass_by-requires-clause-stands : goal.pass_by-requires-clause-stands
-pass_by-requires-clause-stands c = stands-placed _ _ c.requires.stands
+pass_by-requires-clause-stands c = stands-placed _ c.args.placed.now c.requires.stands
