@@ -46,7 +46,7 @@ returns c =
       total = c.watchers.invariant.total;
     }
 
-pub returns-in_err-next : goal.returns-in_err-next-in-Some
+pub returns-in_err-next : goal.returns-in_err-next
 returns-in_err-next c =
     record {
       conflict = IfOk-from_err c.from_residual.result _ c.from_residual.ensures.0;
