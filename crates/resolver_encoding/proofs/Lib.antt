@@ -37,3 +37,6 @@ pub mod TableLemmas
 pub mod LedReading
 pub mod StoredKindLemmas
 pub mod RunLemmas
+pub mod ClauseRunLemmas
+pub mod VariableLemmas
+pub mod BegunLemmas

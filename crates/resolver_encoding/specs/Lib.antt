@@ -23,3 +23,4 @@ pub mod LeftOut
 pub mod Led
 pub mod Kinds
 pub mod Runs
+pub mod ClauseRuns

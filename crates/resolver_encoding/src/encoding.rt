@@ -21,14 +21,14 @@ mod requirements;
 mod turns;
 
 use crate::choices::Choices;
+use crate::clause_runs::ClauseRuns;
 use crate::disjuncts::Entry;
 use crate::groups::Groups;
 use crate::kinds::ClauseKinds;
 use crate::table::ClauseTable;
 use indexmap::IndexSet;
 use resolver_clause_store::{
-    ClauseKind, Clauses, Exhausted, Requirement, RequirementClause, UnionEnds, Variables,
-    VersionSetId,
+    ClauseKind, Exhausted, Requirement, RequirementClause, UnionEnds, Variables, VersionSetId,
 };
 use std::alloc::Global;
 use std::hash::Hash;
@@ -123,7 +123,7 @@ impl<N: Copy + Eq + Hash + Drop, S: Copy + Eq + Hash + Drop> Encoding<N, S> {
     }
 
     /// Returns the literals of the clauses, by their numbers.
-    pub fn literals(&self) -> &Clauses
+    pub fn literals(&self) -> &ClauseRuns
         ensures { result.now ≡ (notes_in self.now).table }
     {
         self.table.literals()

@@ -4,6 +4,7 @@
 
 mod choices;
 mod chosen;
+mod clause_runs;
 mod codes;
 mod disjuncts;
 mod encoding;
@@ -19,6 +20,7 @@ mod sources;
 mod table;
 
 pub use chosen::Chosen;
+pub use clause_runs::ClauseRuns;
 pub use codes::{digit_count, has_digit};
 pub use encoding::Encoding;
 pub use explain::rules_of_clauses;

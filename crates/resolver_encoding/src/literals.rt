@@ -13,7 +13,7 @@ ghost use Rattle.resolver_encoding.specs.Refusals.{IsShortage};
 ghost use Rattle.resolver_encoding.specs.Tables.{IsBeside, IsSecond};
 
 use resolver_clause_store::{
-    By, ClauseKind, Clauses, Exhausted, Literal, Origin, Variables, VersionSetId, clause,
+    By, ClauseKind, Exhausted, Literal, Origin, Variables, VersionSetId,
 };
 use std::hash::Hash;
 
@@ -132,24 +132,6 @@ pub(crate) fn count_of<N, S>(
     front
         .saturating_add(helpers.len())
         .saturating_add(candidates.len())
-}
-
-/// Returns the number of the variable of the literal at a place, or a number that no variable has.
-fn number_at(literals: &[Literal], place: usize) -> usize {
-    match literals.get(place) {
-        Some(literal) => literal.variable.index(),
-        None => usize::MAX,
-    }
-}
-
-/// Returns the numbers of the variables of the first two literals of the last clause. The next clause often begins with one of them.
-pub(crate) fn last_front(clauses: &Clauses) -> (usize, usize) {
-    let count = clauses.len();
-    if count == 0 {
-        return (usize::MAX, usize::MAX);
-    }
-    let literals = clause(clauses, count - 1);
-    (number_at(literals, 0), number_at(literals, 1))
 }
 
 /// Appends the literal of an origin. It takes less time if the number of its variable is the one that is guessed.

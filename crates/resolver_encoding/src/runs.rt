@@ -1,7 +1,7 @@
 //! Lists that are stored as runs.
 
 ghost use Rattle.std.specs.List.Sorted.{IsNonDecreasingBy};
-ghost use Rattle.std.specs.Prelude.{◌<◌, ◌≤◌, ◌≡◌, ◌-◌, ◌^◌, ◌++◌, ◌∷◌, ℕ, [], IfSome, OnErr, OnOk, Some, length, nat_lt, slice_get, take};
+ghost use Rattle.std.specs.Prelude.{◌<◌, ◌≤◌, ◌≡◌, ◌-◌, ◌^◌, ◌++◌, ◌∷◌, ℕ, [], IfSome, MatchBool, OnErr, OnOk, Some, length, nat_lt, slice_get, take, ⊤};
 ghost use Rattle.resolver_encoding.specs.Runs.{BeginBefore, ChangesLast, GoesOnAs};
 ghost use Rattle.resolver_encoding.specs.declared.runs.Run.{Run};
 
@@ -59,6 +59,42 @@ fn begun_before<T: Copy>(runs: &[Run<T>], index: usize) -> usize
             ensures { result ≡ nat_lt run.now.first index }
         { (run.first as usize) < index },
     )
+}
+
+/// Returns whether as many runs as this begin before an index.
+fn is_begun_count<T: Copy>(runs: &[Run<T>], index: usize, count: usize) -> bool
+    requires { IsNonDecreasingBy (λ (run : Run T). run.first) runs.now }
+    ensures { MatchBool result (BeginBefore runs.now index count) ⊤ }
+{
+    if count == 0 || count > runs.len() {
+        return false;
+    }
+    if runs[count - 1].first as usize >= index {
+        return false;
+    }
+    if count == runs.len() {
+        return true;
+    }
+    if (runs[count].first as usize) < index {
+        return false;
+    }
+    true
+}
+
+/// Returns the number of runs that begin before an index, which takes little time if that is the guessed number or the next
+/// one.
+fn begun_near<T: Copy>(runs: &[Run<T>], index: usize, guess: usize) -> usize
+    requires { IsNonDecreasingBy (λ (run : Run T). run.first) runs.now }
+    ensures { BeginBefore runs.now index result }
+{
+    if is_begun_count(runs, index, guess) {
+        return guess;
+    }
+    let next = guess.wrapping_add(1);
+    if is_begun_count(runs, index, next) {
+        return next;
+    }
+    begun_before(runs, index)
 }
 
 /// Lets the last run have this first entry in place of its own.
@@ -159,6 +195,18 @@ impl<T: Copy> Runs<T> {
         ensures few { result.1 < 2 ^ 32 }
     {
         let begun = begun_before(&self.runs, index + 1);
+        entry_in(&self.runs[begun - 1], index)
+    }
+
+    /// Returns the entry with this index. If entries are asked for in their order with one guess, none of them takes long to
+    /// find. The guess may have any value at first.
+    pub(crate) fn at_near(&self, index: usize, guess: &mut usize) -> (T, usize)
+        requires { index < length self.now }
+        ensures value { slice_get self.now index ≡ Some result }
+        ensures few { result.1 < 2 ^ 32 }
+    {
+        let begun = begun_near(&self.runs, index + 1, *guess);
+        *guess = begun;
         entry_in(&self.runs[begun - 1], index)
     }
 }

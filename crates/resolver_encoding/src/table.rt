@@ -12,13 +12,13 @@ ghost use Rattle.resolver_encoding.specs.Tables.{HasAdded, IsTableFull, with_num
 ghost use Rattle.resolver_encoding.specs.Values.{IsClauseOf};
 
 use crate::choices::{Choices, places_behind};
+use crate::clause_runs::ClauseRuns;
 use crate::kinds::ClauseKinds;
 use crate::literals::{
-    count_of, depends_on, first_of, last_front, push_candidates, push_front, push_helpers,
-    second_of,
+    count_of, depends_on, first_of, push_candidates, push_front, push_helpers, second_of,
 };
 use resolver_clause_store::{
-    By, ClauseKind, Clauses, Exhausted, Literal, RequirementClause, UnionEnds, Variables, narrow,
+    By, ClauseKind, Exhausted, Literal, RequirementClause, UnionEnds, Variables, narrow,
 };
 use std::alloc::Global;
 use std::hash::Hash;
@@ -32,7 +32,7 @@ pub(crate) struct ClauseTable<N: Copy + Eq + Hash + Drop, S: Copy + Eq + Hash + 
     alloc: Global,
     pub(crate) variables: Variables<N, S>,
     kinds: ClauseKinds<N, S>,
-    literals: Clauses,
+    literals: ClauseRuns,
     requirements: Vec<RequirementClause>,
     /// For the unions among the requirement clauses, by the numbers of the clauses.
     union_ends: UnionEnds,
@@ -82,7 +82,7 @@ impl<N: Copy + Eq + Hash + Drop, S: Copy + Eq + Hash + Drop> ClauseTable<N, S> {
             alloc,
             variables: Variables::new(alloc, variable_limit),
             kinds: ClauseKinds::new(alloc),
-            literals: Clauses::new(alloc),
+            literals: ClauseRuns::new(alloc),
             requirements: Vec::new(alloc),
             union_ends: UnionEnds::new(alloc),
             clause_limit,
@@ -181,7 +181,7 @@ impl<N: Copy + Eq + Hash + Drop, S: Copy + Eq + Hash + Drop> ClauseTable<N, S> {
         let second = second_of(kind);
         let helpers = depends_on(kind);
         literals.reserve_exact(count_of(&second, helpers, &choices.candidates))?;
-        let guesses = last_front(&self.literals);
+        let guesses = self.literals.last_front();
         push_front(
             &mut self.variables,
             literals,
@@ -271,7 +271,7 @@ impl<N: Copy + Eq + Hash + Drop, S: Copy + Eq + Hash + Drop> ClauseTable<N, S> {
     }
 
     /// Returns the literals of the clauses, by their numbers.
-    pub(crate) fn literals(&self) -> &Clauses
+    pub(crate) fn literals(&self) -> &ClauseRuns
         ensures { result.now ≡ (table_in self.now).literals }
     {
         &self.literals

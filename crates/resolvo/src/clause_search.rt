@@ -35,6 +35,7 @@ use resolver_clause_store::{
     Activity, Choice, Clauses, DecideQueue, DependencyProvider, Exhausted, Interrupted, Literal,
     Owner, RequirementClause, StoredRequirement, Trail, UnionEnds, check_cancel, clause, narrow,
 };
+use resolver_encoding::ClauseRuns;
 use std::alloc::{AllocError, Global};
 
 /// The result of a search.
@@ -337,7 +338,7 @@ impl ClauseSearch {
     }
 
     /// Loads the clauses after those that are loaded.
-    fn load_clauses(&mut self, clauses: &Clauses) -> Result<(), AllocError>
+    fn load_clauses(&mut self, alloc: Global, clauses: &ClauseRuns) -> Result<(), AllocError>
         requires consistent { IsConsistent self.old }
         requires below { AreBelow (variable_count (trail_of self.old)) clauses.now }
         ensures consistent { OnOk result (IsConsistent self.new) }
@@ -346,8 +347,11 @@ impl ClauseSearch {
         ensures same { OnOk result (IsSameSearch self.old self.new) }
         ensures count { OnOk result (length clauses.now ≤ length self.new.places) }
     {
+        let mut literals = Vec::new(alloc);
+        let mut guess = 0;
         'clauses: for number in self.places.len()..clauses.len() {
-            self.load_clause(clause(clauses, number))?;
+            clauses.read_near(number, &mut guess, &mut literals)?;
+            self.load_clause(&literals)?;
         }
         Ok(())
     }
@@ -407,8 +411,9 @@ impl ClauseSearch {
     /// number, if the variable stands for a solvable.
     pub fn load(
         &mut self,
+        alloc: Global,
         variables: usize,
-        clauses: &Clauses,
+        clauses: &ClauseRuns,
         requirements: &[RequirementClause],
         union_ends: &UnionEnds,
         owners: &[Owner],
@@ -432,7 +437,7 @@ impl ClauseSearch {
         self.trail.grow(variables)?;
         self.propagator.grow(variables)?;
         self.queue.learn_owners(owners)?;
-        self.load_clauses(clauses)?;
+        self.load_clauses(alloc, clauses)?;
         self.load_requirements(requirements, union_ends)?;
         Ok(())
     }

@@ -163,6 +163,7 @@ impl<N: Copy + Eq + Hash + Drop, S: Copy + Eq + Hash + Drop> Rounds<N, S> {
         let known = self.encoding.variables();
         self.owners.follow(provider, known)?;
         self.search.load(
+            self.alloc,
             known.len(),
             self.encoding.literals(),
             self.encoding.requirements(),

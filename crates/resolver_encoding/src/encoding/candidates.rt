@@ -1,21 +1,47 @@
 //! Registration of candidates, and their codes.
 
 ghost use Rattle.std.specs.Prelude.{◌≡◌, ◌⊎◌, ◌<◌, ◌≤◌, ◌^◌, ℕ, All, Contains, IfErr, OnOk, Some, false, slice_get, ⊤};
+ghost use Rattle.resolver_clause_store.specs.Laws.{IsIdentity};
+ghost use Rattle.resolver_clause_store.specs.Variables.{IsBounded as AreBounded, IsFull as AreFull, limit_in, origins_in};
 ghost use Rattle.resolver_clause_store.specs.declared.ClauseKind.TheVariants.{HasBit as HasBitKind};
+ghost use Rattle.resolver_clause_store.specs.declared.Origin.TheVariants.{Solvable};
 ghost use Rattle.resolver_encoding.specs.Called.{IsSeeing, IsSeeingEach};
 ghost use Rattle.resolver_encoding.specs.Codes.{bit};
-ghost use Rattle.resolver_encoding.specs.Encodings.{IsAskStep, IsEncoding, IsFull, IsStepWhile, coding_for};
+ghost use Rattle.resolver_encoding.specs.Encodings.{Grows, IsAskStep, IsEncoding, IsFull, IsStepWhile, coding_for};
 ghost use Rattle.resolver_encoding.specs.Groups.{AreGroups, IsAt};
 ghost use Rattle.resolver_clause_store.specs.Universe.{Demands};
-ghost use Rattle.resolver_encoding.specs.Led.{AddsOnly, Brings, IsCoded, IsDigitOf, NoneOwn};
+ghost use Rattle.resolver_encoding.specs.Led.{AddsOnly, AddsSuch, Brings, IsCoded, IsDigitOf, NoneOwn};
 ghost use Rattle.resolver_encoding.specs.Refusals.{IsShortage};
 
 use super::Encoding;
 use crate::codes::{digit_count, has_digit, new_digit};
 use resolver_clause_store::{
-    ClauseKind, DependencyProvider, Exhausted, Interner, Origin, append, place_near,
+    ClauseKind, DependencyProvider, Exhausted, Interner, Origin, Variables, append, place_near,
 };
 use std::hash::Hash;
+
+/// Gives each of the candidates a variable. The new ones are consecutive, so the clauses of the candidates take little
+/// memory.
+fn make_variables<N: Copy + Eq + Hash + Drop, S: Copy + Eq + Hash + Drop>(
+    variables: &mut Variables<N, S>,
+    candidates: &[S],
+) -> Result<(), Exhausted>
+    requires names { IsIdentity N.eq }
+    requires solvables { IsIdentity S.eq }
+    requires bounded { AreBounded variables.old }
+    ensures bounded { AreBounded variables.new }
+    ensures limit { limit_in variables.new ≡ limit_in variables.old }
+    ensures grows { Grows (origins_in variables.old) (origins_in variables.new) }
+    ensures adds { AddsSuch (λ o. (s : S) × Contains candidates.now s × (o ≡ Solvable s)) (origins_in variables.old) (origins_in variables.new) }
+    ensures refusal { IfErr result (IsShortage (AreFull variables.new)) }
+{
+    let mut next = usize::MAX;
+    for candidate in candidates {
+        let variable = variables.intern_near(Origin::Solvable(*candidate), next)?;
+        next = variable.index().wrapping_add(1);
+    }
+    Ok(())
+}
 
 impl<N: Copy + Eq + Hash + Drop, S: Copy + Eq + Hash + Drop> Encoding<N, S> {
     ghost use Rattle.resolver_encoding.specs.Notes.{IsBounded, KeepsRoom, notes_in};
@@ -190,6 +216,7 @@ impl<N: Copy + Eq + Hash + Drop, S: Copy + Eq + Hash + Drop> Encoding<N, S> {
             (IsSeeingEach candidates.now) NoneOwn (notes_in self.old) (notes_in self.new) }
         ensures refusal { IfErr result (IsShortage (IsFull (notes_in self.new))) }
     {
+        make_variables(&mut self.table.variables, candidates)?;
         let mut next = usize::MAX;
         for candidate in candidates {
             next = self.see(provider, *candidate, next)?;

@@ -19,7 +19,7 @@ use super::Encoding;
 use crate::chosen::as_solvable;
 use indexmap::IndexSet;
 use resolver_clause_store::{
-    Cache, DependencyProvider, Exhausted, Interner, Interrupted, Literal, clause, is_among,
+    Cache, DependencyProvider, Exhausted, Interner, Interrupted, Literal, is_among,
 };
 use std::hash::Hash;
 use std::mem::replace;
@@ -89,34 +89,52 @@ impl<N: Copy + Eq + Hash + Drop, S: Copy + Eq + Hash + Drop> Encoding<N, S> {
         as_solvable(self.table.variables.origin(literal.variable))
     }
 
-    /// Returns the literals of a clause, none if there is no such clause.
-    fn clause(&self, number: usize) -> &[Literal]
-        ensures { result.now ≡ clause_at (notes_in self.now).table number }
+    /// Lets a list have the literals of a clause in place of its own, none if there is no such clause.
+    fn read_clause(&self, number: usize, literals: &mut Vec<Literal>) -> Result<(), Exhausted>
+        ensures literals { OnOk result (literals.new.items ≡ clause_at (notes_in self.now).table number) }
+        ensures memory { IfErr result (λ e. e ≡ Exhausted.Memory) }
     {
         let clauses = self.table.literals();
         if number >= clauses.len() {
-            return &[];
+            literals.clear();
+            return Ok(());
         }
-        clause(clauses, number)
+        clauses.read(number, literals)?;
+        Ok(())
     }
 
-    /// Returns the literals of the requirement clause at a place, none if there is no such place.
-    fn asking_literals(&self, place: usize) -> &[Literal]
-        ensures { result.now ≡ literals_at (notes_in self.now) place }
+    /// Lets a list have the literals of the requirement clause at a place in place of its own, none if there is no such
+    /// place.
+    fn read_asking(&self, place: usize, literals: &mut Vec<Literal>) -> Result<(), Exhausted>
+        ensures literals { OnOk result (literals.new.items ≡ literals_at (notes_in self.now) place) }
+        ensures memory { IfErr result (λ e. e ≡ Exhausted.Memory) }
     {
         match self.table.requirements().get(place) {
-            Some(asking) => self.clause(asking.number as usize),
-            None => &[],
+            Some(asking) => {
+                self.read_clause(asking.number as usize, literals)?;
+                Ok(())
+            }
+            None => {
+                literals.clear();
+                Ok(())
+            }
         }
     }
 
-    /// Returns the candidates of the requirement clause at a place. They take the place of the items of `candidates`.
-    fn listed_candidates(&self, place: usize, mut candidates: Vec<S>) -> Result<Vec<S>, Exhausted>
+    /// Returns the candidates of the requirement clause at a place. They take the place of the items of `candidates`. The
+    /// items of `literals` mean nothing.
+    fn listed_candidates(
+        &self,
+        place: usize,
+        literals: &mut Vec<Literal>,
+        mut candidates: Vec<S>,
+    ) -> Result<Vec<S>, Exhausted>
         ensures candidates { IfOk result (λ list. list.items ≡ candidates_at (notes_in self.now) place) }
         ensures memory { IfErr result (λ e. e ≡ Exhausted.Memory) }
     {
+        self.read_asking(place, literals)?;
         candidates.clear();
-        for literal in self.asking_literals(place) {
+        for literal in literals.iter() {
             push_found(&mut candidates, self.stated(*literal))?;
         }
         Ok(candidates)
@@ -234,13 +252,15 @@ impl<N: Copy + Eq + Hash + Drop, S: Copy + Eq + Hash + Drop> Encoding<N, S> {
         Ok(())
     }
 
-    /// Reads each candidate of the requirement clause at a place whose dependencies are available.
+    /// Reads each candidate of the requirement clause at a place whose dependencies are available. The items of `literals`
+    /// mean nothing.
     fn read_hinted_at<D: DependencyProvider<NameId = N, SolvableId = S>>(
         &mut self,
         provider: &D,
         cache: &mut Cache<N, S>,
         chosen: &IndexSet<S>,
         place: usize,
+        literals: &mut Vec<Literal>,
     ) -> Result<(), Interrupted<D::Cancel>>
         requires bounded { IsBounded self.old }
         requires is_true { IsTrueCache (D.universe provider.now) cache.old }
@@ -255,7 +275,7 @@ impl<N: Copy + Eq + Hash + Drop, S: Copy + Eq + Hash + Drop> Encoding<N, S> {
         ensures refusal { IfErr result (IsStop (D.may_cancel provider.now) (IsFull (notes_in self.new))) }
     {
         let list = replace(&mut self.spare, Vec::new(self.alloc));
-        let candidates = self.listed_candidates(place, list)?;
+        let candidates = self.listed_candidates(place, literals, list)?;
         self.read_candidates(provider, cache, chosen, place, &candidates)?;
         self.spare = candidates;
         Ok(())
@@ -286,8 +306,9 @@ impl<N: Copy + Eq + Hash + Drop, S: Copy + Eq + Hash + Drop> Encoding<N, S> {
         ensures refusal { IfErr result (IsStop (D.may_cancel provider.now) (IsFull (notes_in self.new))) }
     {
         let before = self.read.len();
+        let mut literals = Vec::new(self.alloc);
         for place in from..until {
-            self.read_hinted_at(provider, cache, chosen, place)?;
+            self.read_hinted_at(provider, cache, chosen, place, &mut literals)?;
         }
         if before < self.read.len() {
             return Ok(true);

@@ -157,8 +157,20 @@ fn provider_of_nothing(alloc: Global) -> TestProvider {
     }
 }
 
+/// Returns these clauses in the form that a search loads.
+fn runs_of(alloc: Global, clauses: &Clauses) -> Result<ClauseRuns, AllocError>
+    ensures { IfOk result (λ runs. runs ≡ clauses.now) }
+{
+    let mut runs = ClauseRuns::new(alloc);
+    'clauses: for number in 0..clauses.len() {
+        runs.push(clause(clauses, number))?;
+    }
+    Ok(runs)
+}
+
 /// Loads these clauses and requirements, with the packages of variables. Returns whether they could be loaded.
 fn load_given(
+    alloc: Global,
     search: &mut ClauseSearch,
     clauses: &Clauses,
     requirements: &Requirements,
@@ -177,9 +189,13 @@ fn load_given(
     if variables < search.trail().variable_count() {
         return false;
     }
+    let Ok(runs) = runs_of(alloc, clauses) else {
+        return false;
+    };
     let loaded = search.load(
+        alloc,
         variables,
-        clauses,
+        &runs,
         &requirements.clauses,
         &requirements.union_ends,
         owners,
@@ -198,7 +214,7 @@ fn load_all(
     ensures { IfOk result (λ loaded. IsTrue loaded → IsConsistent search.new) }
 {
     let requirements = all_required(alloc, clauses.len())?;
-    let loaded = load_given(search, clauses, &requirements, variables, &[]);
+    let loaded = load_given(alloc, search, clauses, &requirements, variables, &[]);
     Ok(loaded)
 }
 
@@ -424,7 +440,7 @@ fn first_by_searching(
 ) -> Decision
     requires { IsConsistent search.old }
 {
-    if !load_given(search, table, requirements, 16, &[]) {
+    if !load_given(alloc, search, table, requirements, 16, &[]) {
         return None;
     }
     if !finishes(alloc, search, provider) {

@@ -16,8 +16,7 @@ use crate::test_provider::TestProvider;
 use indexmap::IndexSet;
 use resolver_clause_store::{
     Cache, ConditionId, ConditionalRequirement, DependencyProvider, Exhausted, Interner,
-    Interrupted, Origin, Requirement, Variable, Variables, VersionSetId, append, clause, has,
-    is_among,
+    Interrupted, Origin, Requirement, Variable, Variables, VersionSetId, append, has, is_among,
 };
 use resolver_encoding::{Encoding, Progress};
 use std::alloc::Global;
@@ -356,12 +355,18 @@ fn register_all<
 }
 
 /// Returns whether a clause has these literals, in order.
-fn is_clause(encoding: &Encoding<u32, u32>, number: usize, wanted: Literals<'_>) -> bool {
-    if encoding.literals().len() <= number {
+fn is_clause(
+    alloc: Global,
+    encoding: &Encoding<u32, u32>,
+    number: usize,
+    wanted: Literals<'_>,
+) -> bool {
+    let clauses = encoding.literals();
+    if clauses.len() <= number {
         return false;
     }
-    let literals = clause(encoding.literals(), number);
-    if literals.len() != wanted.len() {
+    let mut literals = Vec::new(alloc);
+    if clauses.read(number, &mut literals).is_err() || literals.len() != wanted.len() {
         return false;
     }
     for (literal, (origin, positive)) in literals.iter().zip(wanted) {
@@ -376,9 +381,13 @@ fn is_clause(encoding: &Encoding<u32, u32>, number: usize, wanted: Literals<'_>)
 }
 
 /// Returns whether each of these clauses has its number.
-fn are_clauses(encoding: &Encoding<u32, u32>, wanted: &[(usize, Literals<'_>)]) -> bool {
+fn are_clauses(
+    alloc: Global,
+    encoding: &Encoding<u32, u32>,
+    wanted: &[(usize, Literals<'_>)],
+) -> bool {
     for (number, literals) in wanted {
-        if !is_clause(encoding, *number, literals) {
+        if !is_clause(alloc, encoding, *number, literals) {
             return false;
         }
     }
@@ -492,7 +501,7 @@ fn are_done(
 }
 
 /// Returns whether the encoding has the expected state.
-fn is_there_then(encoding: &Encoding<u32, u32>, case: &Case<'_>) -> bool {
+fn is_there_then(alloc: Global, encoding: &Encoding<u32, u32>, case: &Case<'_>) -> bool {
     let count = match case.count {
         Some(count) => encoding.clause_count() == count,
         None => true,
@@ -502,7 +511,7 @@ fn is_there_then(encoding: &Encoding<u32, u32>, case: &Case<'_>) -> bool {
         None => true,
     };
     let clauses = match case.clauses {
-        Some(clauses) => are_clauses(encoding, clauses),
+        Some(clauses) => are_clauses(alloc, encoding, clauses),
         None => true,
     };
     count & asked & clauses
@@ -523,7 +532,7 @@ fn holds_within(
     ensures { IsTrueCache (test_universe provider.now.endless provider.now.requirements.items provider.now.constraints.items) cache.new }
 {
     let mut encoding = Encoding::new(alloc, limits.0, limits.1);
-    are_done(&mut encoding, provider, cache, case) & is_there_then(&encoding, case)
+    are_done(&mut encoding, provider, cache, case) & is_there_then(alloc, &encoding, case)
 }
 
 /// Returns whether a test succeeds, within these limits.

@@ -13,9 +13,10 @@ use super::no_packages::NoPackages;
 use super::rule_clauses::{RuleClause, RuleClauses};
 use crate::clause_search::{ClauseSearch, Outcome};
 use resolver_clause_store::{
-    Activity, Clauses, Exhausted, Interrupted, Literal, RequirementClause, Rule, Trail, UnionEnds,
+    Activity, Exhausted, Interrupted, Literal, RequirementClause, Rule, Trail, UnionEnds,
     Variable, narrow,
 };
+use resolver_encoding::ClauseRuns;
 use std::alloc::{AllocError, Global};
 use std::mem::drop;
 
@@ -31,7 +32,7 @@ pub enum Verdict {
 /// The clauses of the marked rules, in the form that a search takes.
 #[derive(Drop)]
 pub struct MarkedClauses {
-    pub clauses: Clauses,
+    pub clauses: ClauseRuns,
     /// For each clause, the place of its rule.
     pub places: Vec<usize>,
     /// The clauses whose candidates are to be tried.
@@ -99,7 +100,7 @@ pub fn marked_clauses(
     ensures { IfOk result (λ marked. AreMarkedClauses marks.now clauses.now marked.clauses marked.places.items (numbers_of marked.requirements.items)) }
 {
     let mut marked = MarkedClauses {
-        clauses: Clauses::new(alloc),
+        clauses: ClauseRuns::new(alloc),
         places: Vec::new(alloc),
         requirements: Vec::new(alloc),
         union_ends: UnionEnds::new(alloc),
@@ -197,6 +198,7 @@ fn decide_by<N, S>(
     ensures memory { IfErr result (λ e. e ≡ Exhausted.Memory) }
 {
     search.load(
+        alloc,
         form.variables,
         &marked.clauses,
         &marked.requirements,

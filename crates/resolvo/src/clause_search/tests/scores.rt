@@ -216,6 +216,7 @@ fn seen_in(
 {
     let variables = given.owners.len();
     if !load_given(
+        alloc,
         search,
         &given.table,
         &given.requirements,
