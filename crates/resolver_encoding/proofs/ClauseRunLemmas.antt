@@ -3,20 +3,17 @@ use Rattle.std.proofs.Common.{◌≡◌, ℕ, zero, suc, ◌+◌, ◌<◌, ◌�
 use Rattle.std.proofs.Common.{length-append}
 use Rattle.std.specs.Prelude.{IfSome, Option, None, Some, slice_index_or}
 use Rattle.std.specs.List.{All, range_with_len}
-use Rattle.std.specs.Option.{option_map_or}
 use Rattle.std.proofs.lemmas.List.{append_assoc, get_or_append_left, map-append, take_all}
-use Rattle.std.proofs.lemmas.List.Elements.{All-append, All-push}
-use Rattle.std.proofs.lemmas.List.FromFn.{get_or-map-range_with_len, length-map-range_with_len, map-range_with_len_more}
-use Rattle.std.proofs.lemmas.Simd.{map-map}
+use Rattle.std.proofs.lemmas.List.Elements.{All-push}
+use Rattle.std.proofs.lemmas.List.FromFn.{map-range_with_len_more}
 use Rattle.resolver_clause_store.specs.Formula.{clause_at}
 use Rattle.resolver_clause_store.specs.declared.Literal.{Literal}
 use Rattle.resolver_encoding.specs.Codes.{bit}
 use Rattle.resolver_encoding.specs.declared.clause_runs.StoredClause.{StoredClause}
 use Rattle.resolver_encoding.specs.declared.clause_runs.StoredClause.TheVariants.{Column, Listed, Row, Span}
-use Rattle.resolver_encoding.specs.ClauseRuns.{ContinuesColumn, ContinuesRow, IsSpan, IsStored, IsStoredAt, Lengthens, LengthensLast, StandsFor}
+use Rattle.resolver_encoding.specs.ClauseRuns.{ContinuesColumn, ContinuesRow, IsSpan, IsStored, IsStoredAt, StandsFor}
 use Rattle.resolver_encoding.specs.ClauseRuns.{literal, literals_at, literals_in}
-use Rattle.resolver_encoding.specs.Runs.{GoesOnAs, next_of, run_of}
-use Rattle.resolver_encoding.proofs.RunLemmas.{map-same}
+use Rattle.resolver_encoding.specs.LongerRuns.{Lengthens}
 
 module _ (old : List (List Literal)) (more : List Literal) where
   -- what is stored says the same once there is one more listed clause
@@ -67,58 +64,6 @@ module _ (listed : List (List Literal)) (stored : List (StoredClause × ℕ)) (o
   pub inside_pushed : All (IsStoredAt (length listed)) (stored ++ (one, 0) ∷ [])
   inside_pushed = All-push (IsStoredAt (length listed)) stored (one, 0) inside stands.inside
 
--- the last run is stored otherwise, and goes on
-module _ (listed : List (List Literal)) (old new : List (StoredClause × ℕ)) (literals : List Literal) (longer : StoredClause)
-    (last : LengthensLast listed old literals longer) (goes : GoesOnAs longer old new) where
-  same_first : goes.first ≡ last.last
-  same_first = let First : Option (StoredClause × ℕ) → StoredClause = λ found. option_map_or (λ entry. entry.0) found longer in
-      ap First (sym goes.next ∙ last.next)
-
-  same_count : goes.count ≡ last.steps
-  same_count = let Count : Option (StoredClause × ℕ) → ℕ = λ found. option_map_or (λ entry. entry.1) found 0 in ap Count (sym goes.next ∙ last.next)
-
-  lengthens : Lengthens listed goes.first goes.count literals longer
-  lengthens =
-      let First : StoredClause → Type 0 = λ first. Lengthens listed first goes.count literals longer in
-      let Count : ℕ → Type 0 = λ count. Lengthens listed last.last count literals longer in
-      subst First (sym same_first) (subst Count (sym same_count) last.lengthens)
-
-  run_longer : map (literals_at listed) (run_of longer (goes.count + 1)) ≡ map (literals_at listed) (run_of goes.first goes.count) ++ literals ∷ []
-  run_longer =
-      map-map (literals_at listed) (λ steps. (longer, steps)) (range_with_len 0 (goes.count + 1)) ∙
-      map-range_with_len_more (literals_in listed longer) 0 goes.count goes.count (omega arith) ∙
-      ap (λ before. before ++ literals_in listed longer goes.count ∷ [])
-      (map-same (literals_in listed longer) (literals_in listed goes.first) 0 goes.count (λ k less. lengthens.same k (omega (arith, less))) ∙
-      sym (map-map (literals_at listed) (λ steps. (goes.first, steps)) (range_with_len 0 goes.count))) ∙
-      ap (λ next. map (literals_at listed) (run_of goes.first goes.count) ++ next ∷ []) lengthens.is
-
-  pub clauses_gone_on : map (literals_at listed) new ≡ map (literals_at listed) old ++ literals ∷ []
-  clauses_gone_on =
-      ap (map (literals_at listed)) goes.is ∙ map-append (literals_at listed) goes.before (run_of longer (goes.count + 1)) ∙
-      ap (λ run. map (literals_at listed) goes.before ++ run) run_longer ∙
-      sym (append_assoc (map (literals_at listed) goes.before) (map (literals_at listed) (run_of goes.first goes.count)) (literals ∷ [])) ∙
-      ap (λ before. before ++ literals ∷ [])
-      (sym (ap (map (literals_at listed)) goes.was ∙ map-append (literals_at listed) goes.before (run_of goes.first goes.count)))
-
-  run_inside : All (IsStoredAt (length listed)) (run_of longer (goes.count + 1))
-  run_inside = λ k d below.
-      let Entry : ℕ → StoredClause × ℕ = λ steps. (longer, steps) in
-      let less : k < goes.count + 1 = omega (arith, below, length-map-range_with_len Entry 0 (goes.count + 1)) in
-      let Inside : StoredClause × ℕ → Type 0 = IsStoredAt (length listed) in
-      subst Inside (sym (get_or-map-range_with_len Entry 0 (goes.count + 1) k k d less (omega arith))) (lengthens.inside k less)
-
-  before_inside : All (IsStoredAt (length listed)) (goes.before ++ run_of goes.first goes.count) → All (IsStoredAt (length listed)) goes.before
-  before_inside inside = λ k d below.
-      let long = length-append goes.before (run_of goes.first goes.count) in
-      let Inside : StoredClause × ℕ → Type 0 = IsStoredAt (length listed) in
-      subst Inside (get_or_append_left goes.before (run_of goes.first goes.count) d k below) (inside k d (omega (arith, below, long)))
-
-  pub inside_gone_on : All (IsStoredAt (length listed)) old → All (IsStoredAt (length listed)) new
-  inside_gone_on inside =
-      let Inside : List (StoredClause × ℕ) → Type 0 = All (IsStoredAt (length listed)) in
-      subst Inside (sym goes.is) (All-append (IsStoredAt (length listed)) goes.before (run_of longer (goes.count + 1))
-      (before_inside (subst Inside goes.was inside)) run_inside)
-
 -- a literal by its parts
 pub literal_is : (one : Literal) (number : ℕ) (positive : Bool) → one.variable ≡ number → one.positive ≡ positive → one ≡ literal number positive
 literal_is one number positive variable sign = λ i. record { variable = variable i; positive = sign i }
@@ -130,7 +75,7 @@ at_place variable start steps sign here is same = λ i. record { variable = sym 
 module _ (listed : List (List Literal)) (from : ℕ) (positive : Bool) (variable digits more steps : ℕ) (first second : Literal)
     (lower : (i : ℕ) → i < steps → bit more i ≡ bit digits i) (digit : bit more steps ≡ second.positive) where
   pub longer_row : ContinuesRow from positive variable steps first second →
-      Lengthens listed (Row from positive variable digits) steps (first ∷ second ∷ []) (Row from positive variable more)
+      Lengthens (literals_in listed) (IsStored (length listed)) (Row from positive variable digits) steps (first ∷ second ∷ []) (Row from positive variable more)
   longer_row goes = record {
     same = λ k less. ap (λ sign. literal from positive ∷ literal (variable + k) sign ∷ []) (lower k less);
     is = ap (λ one. one ∷ literal (variable + steps) (bit more steps) ∷ []) (sym goes.same) ∙
@@ -139,7 +84,7 @@ module _ (listed : List (List Literal)) (from : ℕ) (positive : Bool) (variable
   }
 
   pub longer_column : ContinuesColumn from positive variable steps first second →
-      Lengthens listed (Column from positive variable digits) steps (first ∷ second ∷ []) (Column from positive variable more)
+      Lengthens (literals_in listed) (IsStored (length listed)) (Column from positive variable digits) steps (first ∷ second ∷ []) (Column from positive variable more)
   longer_column goes = record {
     same = λ k less. ap (λ sign. literal (from + k) positive ∷ literal variable sign ∷ []) (lower k less);
     is = ap (λ one. one ∷ literal variable (bit more steps) ∷ []) (sym goes.other) ∙
@@ -149,8 +94,8 @@ module _ (listed : List (List Literal)) (from : ℕ) (positive : Bool) (variable
 
 -- a row of one clause is a column
 pub row_as_column : (listed : List (List Literal)) (from : ℕ) (positive : Bool) (variable digits steps : ℕ) (literals : List Literal) (longer : StoredClause) →
-    steps ≡ 1 → Lengthens listed (Column from positive variable digits) steps literals longer →
-    Lengthens listed (Row from positive variable digits) steps literals longer
+    steps ≡ 1 → Lengthens (literals_in listed) (IsStored (length listed)) (Column from positive variable digits) steps literals longer →
+    Lengthens (literals_in listed) (IsStored (length listed)) (Row from positive variable digits) steps literals longer
 row_as_column listed from positive variable digits steps literals longer one goes = record {
   same = λ k less.
       let none : k ≡ 0 = omega (arith, less, one) in
@@ -222,24 +167,10 @@ pair_is (a ∷ []) first second least below one other = absurd (omega (arith, le
 pair_is (a ∷ b ∷ []) first second least below one other = λ i. one i ∷ other i ∷ []
 pair_is (a ∷ b ∷ c ∷ rest) first second least below one other = absurd (omega (arith, below))
 
--- the last run goes on
-pub lengthens_last : (listed : List (List Literal)) (stored : List (StoredClause × ℕ)) (last entry : StoredClause) (steps : ℕ) (pair literals : List Literal)
-    (found : Option StoredClause) → last ≡ entry → Some (last, steps) ≡ next_of stored → pair ≡ literals → IfSome found (Lengthens listed entry steps pair) →
-    IfSome found (LengthensLast listed stored literals)
-lengthens_last listed stored last entry steps pair literals None is next are goes = tt
-lengthens_last listed stored last entry steps pair literals (Some longer) is next are goes =
-    let Entry : StoredClause → Type 0 = λ one. Lengthens listed one steps pair longer in
-    let Pair : List Literal → Type 0 = λ list. Lengthens listed last steps list longer in
-    record { last = last; steps = steps; next = sym next; lengthens = subst Pair are (subst Entry (sym is) goes) }
-
-pub some_stored : (stored : List (StoredClause × ℕ)) (entry : StoredClause × ℕ) → next_of stored ≡ Some entry → 0 < length stored
-some_stored [] entry is = absurd cc
-some_stored (one ∷ stored) entry is = omega arith
-
 -- a row of one clause may go on as a column
 pub row_or_column : (listed : List (List Literal)) (from : ℕ) (positive : Bool) (variable digits steps : ℕ) (literals : List Literal)
-    (found : Option StoredClause) → steps ≡ 1 → IfSome found (Lengthens listed (Column from positive variable digits) steps literals) →
-    IfSome found (Lengthens listed (Row from positive variable digits) steps literals)
+    (found : Option StoredClause) → steps ≡ 1 → IfSome found (Lengthens (literals_in listed) (IsStored (length listed)) (Column from positive variable digits) steps literals) →
+    IfSome found (Lengthens (literals_in listed) (IsStored (length listed)) (Row from positive variable digits) steps literals)
 row_or_column listed from positive variable digits steps literals None one goes = tt
 row_or_column listed from positive variable digits steps literals (Some longer) one goes =
     row_as_column listed from positive variable digits steps literals longer one goes

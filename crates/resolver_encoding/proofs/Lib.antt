@@ -37,6 +37,7 @@ pub mod TableLemmas
 pub mod LedReading
 pub mod StoredKindLemmas
 pub mod RunLemmas
+pub mod LongerRunLemmas
 pub mod ClauseRunLemmas
 pub mod VariableLemmas
 pub mod BegunLemmas

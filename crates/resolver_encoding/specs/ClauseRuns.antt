@@ -1,10 +1,9 @@
 -- How the literals of clauses are stored.
-use Rattle.std.specs.Prelude.{◌≡◌, ℕ, ◌+◌, ◌^◌, ◌<◌, ◌≤◌, Bool, Some, List, [], ◌∷◌, length, map}
+use Rattle.std.specs.Prelude.{◌≡◌, ℕ, ◌+◌, ◌^◌, ◌<◌, ◌≤◌, Bool, List, [], ◌∷◌, length, map}
 use Rattle.std.specs.List.{range_with_len}
 use Rattle.resolver_clause_store.specs.Formula.{clause_at}
 use Rattle.resolver_clause_store.specs.declared.literals.Literal.{Literal}
 use Rattle.resolver_encoding.specs.Codes.{bit}
-use Rattle.resolver_encoding.specs.Runs.{next_of}
 use Rattle.resolver_encoding.specs.declared.clause_runs.StoredClause.{StoredClause}
 use Rattle.resolver_encoding.specs.declared.clause_runs.StoredClause.TheVariants.{Column, Listed, Row, Span}
 
@@ -57,16 +56,3 @@ pub record ContinuesColumn (from : ℕ) (positive : Bool) (variable steps : ℕ)
   pub below : from + steps < 2 ^ 32
   pub same : second.variable ≡ variable
   pub other : first ≡ literal (from + steps) positive
-
--- if this is stored in place of the last clause, the clauses so many steps after it keep their literals, and the next one has these literals
-pub record Lengthens (listed : List (List Literal)) (last : StoredClause) (steps : ℕ) (literals : List Literal) (longer : StoredClause) : Type 0 where
-  pub same : (k : ℕ) → k < steps → literals_in listed longer k ≡ literals_in listed last k
-  pub is : literals_in listed longer steps ≡ literals
-  pub inside : (k : ℕ) → k < steps + 1 → IsStored (length listed) longer k
-
--- the same for the last run of what is stored
-pub record LengthensLast (listed : List (List Literal)) (stored : List (StoredClause × ℕ)) (literals : List Literal) (longer : StoredClause) : Type 0 where
-  pub last : StoredClause
-  pub steps : ℕ
-  pub next : next_of stored ≡ Some (last, steps)
-  pub lengthens : Lengthens listed last steps literals longer

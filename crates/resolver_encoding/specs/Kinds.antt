@@ -1,11 +1,10 @@
 -- How the kinds of clauses are stored.
-use Rattle.std.specs.Prelude.{◌≡◌, ℕ, ◌+◌, ◌^◌, ◌<◌, ⊤, Some, List, [], ◌++◌, length, slice_get}
+use Rattle.std.specs.Prelude.{◌≡◌, ℕ, ◌+◌, ◌^◌, ◌<◌, ⊤, List, [], ◌++◌, length, slice_get}
 use Rattle.std.specs.Option.{option_map_or}
 use Rattle.resolver_clause_store.specs.declared.ClauseKind.{ClauseKind}
 use Rattle.resolver_clause_store.specs.declared.ClauseKind.TheVariants.{InstallRoot, Requires, AnyOf, Constrains, GateRequires, ConstrainsExcluded}
 use Rattle.resolver_clause_store.specs.declared.ClauseKind.TheVariants.{ConstrainsParent, HasBit, Lock, Excluded}
 use Rattle.resolver_encoding.specs.Codes.{bit}
-use Rattle.resolver_encoding.specs.Runs.{next_of}
 use Rattle.resolver_encoding.specs.declared.kinds.ConditionalClause.{ConditionalClause}
 use Rattle.resolver_encoding.specs.declared.kinds.StoredKind.{StoredKind}
 use Rattle.resolver_encoding.specs.declared.kinds.StoredKind.TheVariants.{InstallRoot as Root, Requires as Plain, Conditional, AnyOf as Help}
@@ -49,16 +48,3 @@ pub record Stores {N S : Type 0} (old new : List (ConditionalClause S)) (stored 
   pub inside : IsStored (length new) stored 0
   pub more : List (ConditionalClause S)
   pub grown : new ≡ old ++ more
-
--- if this is stored in place of the last kind, the clauses so many steps after it keep their kinds, and the next one has this kind
-pub record Lengthens {N S : Type 0} (last : StoredKind N S) (steps : ℕ) (kind : ClauseKind N S) (longer : StoredKind N S) : Type 0 where
-  pub same : (conditional : List (ConditionalClause S)) (k : ℕ) → k < steps → kind_in conditional longer k ≡ kind_in conditional last k
-  pub is : (conditional : List (ConditionalClause S)) → kind_in conditional longer steps ≡ kind
-  pub inside : (count k : ℕ) → k < steps + 1 → IsStored count longer k
-
--- the same for the last run of what is stored
-pub record LengthensLast {N S : Type 0} (stored : List (StoredKind N S × ℕ)) (kind : ClauseKind N S) (longer : StoredKind N S) : Type 0 where
-  pub last : StoredKind N S
-  pub steps : ℕ
-  pub next : next_of stored ≡ Some (last, steps)
-  pub lengthens : Lengthens last steps kind longer

@@ -23,4 +23,5 @@ pub mod LeftOut
 pub mod Led
 pub mod Kinds
 pub mod Runs
+pub mod LongerRuns
 pub mod ClauseRuns

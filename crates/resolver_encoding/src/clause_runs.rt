@@ -4,7 +4,8 @@ ghost use Rattle.std.specs.List.{range_with_len};
 ghost use Rattle.std.specs.Prelude.{◌<◌, ◌≤◌, ◌≡◌, ◌+◌, ◌^◌, ◌++◌, ◌∷◌, [], IfOk, IfSome, List, MatchBool, OnErr, OnOk, length, map, ⊤};
 ghost use Rattle.resolver_clause_store.specs.Formula.{clause_at};
 ghost use Rattle.resolver_clause_store.specs.declared.Literal.{Literal};
-ghost use Rattle.resolver_encoding.specs.ClauseRuns.{ContinuesColumn, ContinuesRow, IsSpan, IsStored, Lengthens, LengthensLast, StandsFor, literal, literals_in};
+ghost use Rattle.resolver_encoding.specs.ClauseRuns.{ContinuesColumn, ContinuesRow, IsSpan, IsStored, StandsFor, literal, literals_in};
+ghost use Rattle.resolver_encoding.specs.LongerRuns.{Lengthens, LengthensLast};
 ghost use Rattle.resolver_encoding.specs.declared.clause_runs.StoredClause.TheVariants.{Column, Row};
 
 use crate::codes::{has_digit, with_digit};
@@ -108,7 +109,7 @@ fn longer_column(
     second: Literal,
 ) -> Option<StoredClause>
     ensures { (listed : List (List Literal)) →
-        IfSome result (Lengthens listed (Column start.first start.positive start.second digits) steps (first ∷ second ∷ [])) }
+        IfSome result (Lengthens (literals_in listed) (IsStored (length listed)) (Column start.first start.positive start.second digits) steps (first ∷ second ∷ [])) }
 {
     let sign = second.positive;
     if !continues_column(start, steps, first, second) {
@@ -133,7 +134,7 @@ fn longer_row(
     second: Literal,
 ) -> Option<StoredClause>
     ensures { (listed : List (List Literal)) →
-        IfSome result (Lengthens listed (Row start.first start.positive start.second digits) steps (first ∷ second ∷ [])) }
+        IfSome result (Lengthens (literals_in listed) (IsStored (length listed)) (Row start.first start.positive start.second digits) steps (first ∷ second ∷ [])) }
 {
     if steps == 1 && second.variable.index() == start.second as usize {
         return longer_column(start, digits, steps, first, second);
@@ -153,7 +154,7 @@ fn longer_row(
 
 /// Returns how the last run is stored once it has the clause of these literals, too, or `None` if that begins a run.
 fn longer(stored: &Runs<StoredClause>, literals: &[Literal]) -> Option<StoredClause>
-    ensures { (listed : List (List Literal)) → IfSome result (LengthensLast listed stored.now literals.now) }
+    ensures { (listed : List (List Literal)) → IfSome result (LengthensLast (literals_in listed) (IsStored (length listed)) stored.now literals.now) }
 {
     let [first, second] = literals else {
         return None;
@@ -263,11 +264,7 @@ fn push_span(
 }
 
 /// Appends two literals.
-fn push_two(
-    literals: &mut Vec<Literal>,
-    first: Literal,
-    second: Literal,
-) -> Result<(), AllocError>
+fn push_two(literals: &mut Vec<Literal>, first: Literal, second: Literal) -> Result<(), AllocError>
     ensures { OnOk result (literals.new.items ≡ literals.old.items ++ first ∷ second ∷ []) }
 {
     literals.push(first)?;

@@ -1,9 +1,11 @@
 //! The kinds of clauses, as they are stored.
 
-ghost use Rattle.std.specs.Prelude.{◌<◌, ◌≡◌, ◌++◌, ◌∷◌, [], IfOk, IfSome, OnErr, OnOk, length, slice_index_or, take};
+ghost use Rattle.std.specs.Prelude.{◌<◌, ◌≡◌, ◌++◌, ◌∷◌, [], IfOk, IfSome, List, OnErr, OnOk, length, slice_index_or, take};
 ghost use Rattle.resolver_clause_store.specs.Laws.{IsIdentity};
 ghost use Rattle.resolver_clause_store.specs.declared.ClauseKind.TheVariants.{HasBit as HasBitKind, InstallRoot, Requires};
-ghost use Rattle.resolver_encoding.specs.Kinds.{IsStored, Lengthens, LengthensLast, Stores, kind_in};
+ghost use Rattle.resolver_encoding.specs.Kinds.{IsStored, Stores, kind_in};
+ghost use Rattle.resolver_encoding.specs.LongerRuns.{Lengthens, LengthensLast};
+ghost use Rattle.resolver_encoding.specs.declared.kinds.ConditionalClause.{ConditionalClause};
 ghost use Rattle.resolver_encoding.specs.declared.kinds.StoredKind.TheVariants.{Conditional};
 
 use crate::codes::{has_digit, with_digit};
@@ -189,7 +191,8 @@ fn with_next_digit<N: Copy + Eq, S: Copy + Eq>(
 ) -> Option<StoredKind<N, S>>
     requires names { IsIdentity N.eq }
     requires solvables { IsIdentity S.eq }
-    ensures { IfSome result (Lengthens last steps (HasBitKind name instance index value)) }
+    ensures { (conditional : List (ConditionalClause S)) → IfSome result
+        (Lengthens (kind_in conditional) (IsStored (length conditional)) last steps (HasBitKind name instance index value)) }
 {
     match last {
         StoredKind::HasBits(last_name, last_instance, first, digits) => {
@@ -213,7 +216,8 @@ fn longer<N: Copy + Eq, S: Copy + Eq>(
 ) -> Option<StoredKind<N, S>>
     requires names { IsIdentity N.eq }
     requires solvables { IsIdentity S.eq }
-    ensures { IfSome result (LengthensLast stored.now kind.now) }
+    ensures { (conditional : List (ConditionalClause S)) → IfSome result
+        (LengthensLast (kind_in conditional) (IsStored (length conditional)) stored.now kind.now) }
 {
     let Some((last, steps)) = stored.next() else {
         return None;

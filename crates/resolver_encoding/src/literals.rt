@@ -12,9 +12,7 @@ ghost use Rattle.resolver_encoding.specs.Led.{AddsSuch};
 ghost use Rattle.resolver_encoding.specs.Refusals.{IsShortage};
 ghost use Rattle.resolver_encoding.specs.Tables.{IsBeside, IsSecond};
 
-use resolver_clause_store::{
-    By, ClauseKind, Exhausted, Literal, Origin, Variables, VersionSetId,
-};
+use resolver_clause_store::{By, ClauseKind, Exhausted, Literal, Origin, Variables, VersionSetId};
 use std::hash::Hash;
 
 /// Returns the origin of the root or of a solvable.

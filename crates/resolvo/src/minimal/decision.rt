@@ -13,8 +13,8 @@ use super::no_packages::NoPackages;
 use super::rule_clauses::{RuleClause, RuleClauses};
 use crate::clause_search::{ClauseSearch, Outcome};
 use resolver_clause_store::{
-    Activity, Exhausted, Interrupted, Literal, RequirementClause, Rule, Trail, UnionEnds,
-    Variable, narrow,
+    Activity, Exhausted, Interrupted, Literal, RequirementClause, Rule, Trail, UnionEnds, Variable,
+    narrow,
 };
 use resolver_encoding::ClauseRuns;
 use std::alloc::{AllocError, Global};
