@@ -1,8 +1,8 @@
 //! The solvables that imply helpers.
 
-ghost use Rattle.std.specs.Prelude.{◌≡◌, ◌++◌, ◌∷◌, ◌<◌, [], All, Contains, IfErr, IfOk, List, OnOk, length};
+ghost use Rattle.std.specs.Prelude.{◌≡◌, ◌++◌, ◌∷◌, ◌<◌, [], All, Contains, IfErr, IfOk, List, OnOk, length, slice_index_or};
 ghost use Rattle.resolver_clause_store.specs.declared.ClauseKind.{ClauseKind as Kind};
-ghost use Rattle.resolver_clause_store.specs.declared.ClauseKind.TheVariants.{AnyOf};
+ghost use Rattle.resolver_clause_store.specs.declared.ClauseKind.TheVariants.{AnyOf, InstallRoot};
 ghost use Rattle.resolver_encoding.specs.Sources.{AreSources};
 ghost use Rattle.resolver_encoding.specs.Values.{kinds_at};
 
@@ -76,6 +76,42 @@ impl<S: Copy + Drop> Sources<S> {
             _ => Ok(()),
         }
     }
+
+    /// Notes the clause with this number.
+    fn note_at<N: Copy + Drop>(
+        &mut self,
+        alloc: Global,
+        kinds: &ClauseKinds<N, S>,
+        number: usize,
+    ) -> Result<(), Exhausted>
+        requires { number < length kinds.now }
+        ensures noted { OnOk result ((noted : List (Kind N S)) → AreSources noted self.old → AreSources (noted ++ slice_index_or kinds.now number InstallRoot ∷ [])
+            self.new) }
+        ensures memory { IfErr result (λ e. e ≡ Exhausted.Memory) }
+    {
+        let kind = kinds.at(alloc, number)?;
+        let noted = self.note(&kind);
+        drop(kind);
+        noted
+    }
+
+    /// Notes the clauses with these numbers.
+    fn note_all<N: Copy + Drop>(
+        &mut self,
+        alloc: Global,
+        kinds: &ClauseKinds<N, S>,
+        numbers: &[usize],
+    ) -> Result<(), Exhausted>
+        requires within { All (λ n. n < length kinds.now) numbers.now }
+        requires none { AreSources (kinds_at kinds.now []) self.old }
+        ensures are { OnOk result (AreSources (kinds_at kinds.now numbers.now) self.new) }
+        ensures memory { IfErr result (λ e. e ≡ Exhausted.Memory) }
+    {
+        for number in numbers {
+            self.note_at(alloc, kinds, *number)?;
+        }
+        Ok(())
+    }
 }
 
 /// Returns the sources that the clauses with these numbers name.
@@ -92,9 +128,6 @@ pub(crate) fn sources_of<N: Copy + Drop, S: Copy + Drop>(
         gates: Groups::new(alloc),
         helpers: Groups::new(alloc),
     };
-    for number in numbers {
-        let kind = kinds.at(alloc, *number)?;
-        sources.note(&kind)?;
-    }
+    sources.note_all(alloc, kinds, numbers)?;
     Ok(sources)
 }

@@ -1,5 +1,7 @@
-use Rattle.std.proofs.Common.{arith, refl, ap, ◌∙◌, length, false}
+use Rattle.std.proofs.Common.{arith, refl, ap, ◌+◌, ◌∙◌, length, false}
 use Rattle.std.proofs.lemmas.List.{length-replicate}
+use Rattle.std.proofs.lemmas.Result.{IfOk-from_err}
+use Rattle.resolver_encoding.proofs.RefusalLemmas.{IfErr-of}
 use Rattle.resolvo.proofs.MinimalLemmas.{underway_done}
 use Rattle.resolvo.proofs.RotationLemmas.{needed_none}
 use Rattle.resolvo.proofs.minimal.take_turns.Goals as goal
@@ -19,3 +21,34 @@ loop-turn-init g c =
 pub returns-clause-left : goal.returns-clause-left
 returns-clause-left g c = underway_done c.args.rules.now c.loop-turn.turns.kept.items c.loop-turn.turns.core.items
     (omega arith) c.loop-turn.invariant.0.underway
+
+pub loop-turn-preserved : goal.loop-turn-preserved
+loop-turn-preserved g c = (c.in_ok-take_turn.ensures.underway, c.in_ok-take_turn.ensures.next ∙ ap (λ k. k + 1) c.loop-turn.invariant.1)
+
+pub take_turn-requires-clause-names : goal.take_turn-requires-clause-names
+take_turn-requires-clause-names g c = c.requires.names
+
+pub take_turn-requires-clause-solvables : goal.take_turn-requires-clause-solvables
+take_turn-requires-clause-solvables g c = c.requires.solvables
+
+pub take_turn-requires-clause-form : goal.take_turn-requires-clause-form
+take_turn-requires-clause-form g c = c.requires.form
+
+pub take_turn-requires-clause-underway : goal.take_turn-requires-clause-underway
+take_turn-requires-clause-underway g c = c.loop-turn.invariant.0
+
+pub returns-in_err-turns : goal.returns-in_err-turns
+returns-in_err-turns g c =
+    record {
+      left = IfOk-from_err c.from_residual.result _ c.from_residual.ensures.0;
+      size = IfOk-from_err c.from_residual.result _ c.from_residual.ensures.0;
+      memory = IfErr-of c.from_residual.result _ _ c.from_residual.ensures.1 refl;
+    }
+
+pub returns-in_err-take_turn : goal.returns-in_err-take_turn
+returns-in_err-take_turn g c =
+    record {
+      left = IfOk-from_err c.from_residual-in_err-take_turn.result _ c.from_residual-in_err-take_turn.ensures.0;
+      size = IfOk-from_err c.from_residual-in_err-take_turn.result _ c.from_residual-in_err-take_turn.ensures.0;
+      memory = IfErr-of c.from_residual-in_err-take_turn.result _ _ c.from_residual-in_err-take_turn.ensures.1 c.in_err-take_turn.ensures.memory;
+    }

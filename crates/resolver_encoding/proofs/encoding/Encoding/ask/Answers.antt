@@ -4,11 +4,14 @@ use Rattle.std.proofs.lemmas.List.Elements.{Contains-push}
 use Rattle.resolver_clause_store.specs.declared.ClauseKind.TheVariants.{Excluded}
 use Rattle.resolver_encoding.specs.Encodings.{asking_for}
 use Rattle.resolver_encoding.specs.Notes.{notes_in}
-use Rattle.resolver_encoding.proofs.EncodingLemmas.{IsStep-trans}
+use Rattle.resolver_encoding.proofs.EncodingLemmas.{IsAskStep-same, IsStep-trans}
 use Rattle.resolver_encoding.proofs.NoteLemmas.{IsPackageRead-found, IsStep-asked}
 use Rattle.resolver_encoding.specs.Turns.{AddsPlainly}
 use Rattle.resolver_encoding.proofs.TurnLemmas.{AddsPlainly-trans, AsksOnly-of, AsksOnly-same}
-use Rattle.resolver_encoding.proofs.LedLemmas.{AddsOnly-same_as, AddsOnly-trans}
+use Rattle.std.proofs.lemmas.Result.{IfOk-from_err}
+use Rattle.resolver_encoding.specs.Called.{IsAsking}
+use Rattle.resolver_encoding.proofs.RefusalLemmas.{IfErr-of, IfErr-stop, shortage_of_memory}
+use Rattle.resolver_encoding.proofs.LedLemmas.{AddsOnly-equal, AddsOnly-same_as, AddsOnly-trans}
 use Rattle.resolver_encoding.proofs.encoding.Encoding.ask.Goals as goal
 
 pub append-requires-clause-absent : goal.append-requires-clause-absent
@@ -48,17 +51,116 @@ returns-clause-alone g c =
     AsksOnly-of u c.args.name (notes_in c.args.self.now) _ (returns-clause-step g c) (returns-clause-asked g c)
     (subst Plain (sym c.in_ok-append.ensures.keys) (record { requirements = plain.requirements; seen = plain.seen }))
 
-pub returns-then-is_among-clause-alone : goal.returns-then-is_among-clause-alone
-returns-then-is_among-clause-alone g c = AsksOnly-same (g.D.Interner.universe c.args.provider.now) c.args.name (notes_in c.args.self.now) c.if-is_among.ensures
+pub returns-clause-bounded : goal.returns-clause-bounded
+returns-clause-bounded g c = c.exclude_each.ensures.room.bounded
 
-pub returns-in_err-exclude_each-clause-adds : goal.returns-in_err-exclude_each-clause-adds
-returns-in_err-exclude_each-clause-adds g c = AddsOnly-trans _ _ _ _ c.lock_out_others.ensures.adds c.exclude_each.ensures.adds
-
-pub returns-in_err-append-clause-adds : goal.returns-in_err-append-clause-adds
-returns-in_err-append-clause-adds g c =
-    AddsOnly-same_as _ (notes_in c.args.self.now) (notes_in c.exclude_each.new.self) _
-    (AddsOnly-trans _ _ _ _ c.lock_out_others.ensures.adds c.exclude_each.ensures.adds) refl refl
+pub returns-clause-limits : goal.returns-clause-limits
+returns-clause-limits g c = let one = c.lock_out_others.ensures.room in let two = c.exclude_each.ensures.room in record { variables = two.variables ∙ one.variables; clauses = two.clauses ∙ one.clauses }
 
 pub returns-clause-adds : goal.returns-clause-adds
 returns-clause-adds g c = AddsOnly-same_as _ (notes_in c.args.self.now) (notes_in c.exclude_each.new.self) _
     (AddsOnly-trans _ _ _ _ c.lock_out_others.ensures.adds c.exclude_each.ensures.adds) refl refl
+
+pub returns-then-is_among : goal.returns-then-is_among
+returns-then-is_among g c =
+    let u = g.D.Interner.universe c.args.provider.now in
+    let old = notes_in c.args.self.now in
+    record {
+      bounded = c.requires.bounded;
+      is_true = c.requires.is_true;
+      step = IsAskStep-same u (IsAsking c.args.name) (λ root. ⊤) old;
+      alone = AsksOnly-same u c.args.name old c.if-is_among.ensures;
+      asked = c.if-is_among.ensures;
+      adds = AddsOnly-equal _ _ _ refl refl;
+      limits = record { variables = refl; clauses = refl };
+      refusal = tt;
+    }
+
+pub returns-in_err-fetch_candidates : goal.returns-in_err-fetch_candidates
+returns-in_err-fetch_candidates g c =
+    record {
+      bounded = c.requires.bounded;
+      is_true = c.fetch_candidates.ensures.is_true;
+      step = IfOk-from_err c.from_residual.result _ c.from_residual.ensures.0;
+      alone = IfOk-from_err c.from_residual.result _ c.from_residual.ensures.0;
+      asked = IfOk-from_err c.from_residual.result _ c.from_residual.ensures.0;
+      adds = AddsOnly-equal _ _ _ refl refl;
+      limits = record { variables = refl; clauses = refl };
+      refusal = IfErr-stop c.from_residual.result (g.D.DependencyProvider.may_cancel c.args.provider.now) _ _ c.from_residual.ensures.1 c.in_err-fetch_candidates.ensures.refusal;
+    }
+
+pub returns-in_err-lock_out_others : goal.returns-in_err-lock_out_others
+returns-in_err-lock_out_others g c =
+    record {
+      bounded = c.lock_out_others.ensures.room.bounded;
+      is_true = c.fetch_candidates.ensures.is_true;
+      step = IfOk-from_err c.from_residual-in_err-lock_out_others.result _ c.from_residual-in_err-lock_out_others.ensures.0;
+      alone = IfOk-from_err c.from_residual-in_err-lock_out_others.result _ c.from_residual-in_err-lock_out_others.ensures.0;
+      asked = IfOk-from_err c.from_residual-in_err-lock_out_others.result _ c.from_residual-in_err-lock_out_others.ensures.0;
+      adds = c.lock_out_others.ensures.adds;
+      limits = let it = c.lock_out_others.ensures.room in record { variables = it.variables; clauses = it.clauses };
+      refusal = IfErr-of c.from_residual-in_err-lock_out_others.result _ _ c.from_residual-in_err-lock_out_others.ensures.1 c.in_err-lock_out_others.ensures.refusal;
+    }
+
+pub returns-in_err-exclude_each : goal.returns-in_err-exclude_each
+returns-in_err-exclude_each g c =
+    record {
+      bounded = c.exclude_each.ensures.room.bounded;
+      is_true = c.fetch_candidates.ensures.is_true;
+      step = IfOk-from_err c.from_residual-in_err-exclude_each.result _ c.from_residual-in_err-exclude_each.ensures.0;
+      alone = IfOk-from_err c.from_residual-in_err-exclude_each.result _ c.from_residual-in_err-exclude_each.ensures.0;
+      asked = IfOk-from_err c.from_residual-in_err-exclude_each.result _ c.from_residual-in_err-exclude_each.ensures.0;
+      adds = AddsOnly-trans _ _ _ _ c.lock_out_others.ensures.adds c.exclude_each.ensures.adds;
+      limits = let one = c.lock_out_others.ensures.room in let two = c.exclude_each.ensures.room in record { variables = two.variables ∙ one.variables; clauses = two.clauses ∙ one.clauses };
+      refusal = IfErr-of c.from_residual-in_err-exclude_each.result _ _ c.from_residual-in_err-exclude_each.ensures.1 c.in_err-exclude_each.ensures.refusal;
+    }
+
+pub returns-in_err-append : goal.returns-in_err-append
+returns-in_err-append g c =
+    record {
+      bounded = c.exclude_each.ensures.room.bounded;
+      is_true = c.fetch_candidates.ensures.is_true;
+      step = IfOk-from_err c.from_residual-in_err-append.result _ c.from_residual-in_err-append.ensures.0;
+      alone = IfOk-from_err c.from_residual-in_err-append.result _ c.from_residual-in_err-append.ensures.0;
+      asked = IfOk-from_err c.from_residual-in_err-append.result _ c.from_residual-in_err-append.ensures.0;
+      adds = AddsOnly-same_as _ (notes_in c.args.self.now) (notes_in c.exclude_each.new.self) _
+          (AddsOnly-trans _ _ _ _ c.lock_out_others.ensures.adds c.exclude_each.ensures.adds) refl refl;
+      limits = let one = c.lock_out_others.ensures.room in let two = c.exclude_each.ensures.room in record { variables = two.variables ∙ one.variables; clauses = two.clauses ∙ one.clauses };
+      refusal = IfErr-of c.from_residual-in_err-append.result _ _ c.from_residual-in_err-append.ensures.1 (shortage_of_memory _ _ c.in_err-append.ensures.memory);
+    }
+
+pub candidates-package-requires-clause-names : goal.candidates-package-requires-clause-names
+candidates-package-requires-clause-names g c = g.met.D.Interner.names_are_values
+
+pub candidates-package-requires-clause-has : goal.candidates-package-requires-clause-has
+candidates-package-requires-clause-has g c = c.in_ok-fetch_candidates.ensures.has
+
+pub lock_out_others-requires-clause-bounded : goal.lock_out_others-requires-clause-bounded
+lock_out_others-requires-clause-bounded g c = c.requires.bounded
+
+pub lock_out_others-requires-clause-listed : goal.lock_out_others-requires-clause-listed
+lock_out_others-requires-clause-listed g c =
+    let u = g.D.Interner.universe c.args.provider.now in
+    c.deref.ensures.value ∙ ap (λ p. p.listed) (c.candidates-package.ensures u c.fetch_candidates.ensures.is_true)
+
+pub lock_out_others-requires-clause-locked : goal.lock_out_others-requires-clause-locked
+lock_out_others-requires-clause-locked g c =
+    let u = g.D.Interner.universe c.args.provider.now in
+    ap (λ p. p.locked) (c.candidates-package.ensures u c.fetch_candidates.ensures.is_true)
+
+pub exclude_each-requires-clause-bounded : goal.exclude_each-requires-clause-bounded
+exclude_each-requires-clause-bounded g c = c.lock_out_others.ensures.room.bounded
+
+pub exclude_each-requires-clause-excluded : goal.exclude_each-requires-clause-excluded
+exclude_each-requires-clause-excluded g c =
+    let u = g.D.Interner.universe c.args.provider.now in
+    c.deref-2.ensures.value ∙ ap (λ p. p.excluded) (c.candidates-package.ensures u c.fetch_candidates.ensures.is_true)
+
+pub append-requires-clause-identity : goal.append-requires-clause-identity
+append-requires-clause-identity g c = g.met.D.Interner.names_are_values
+
+pub returns-clause-is_true : goal.returns-clause-is_true
+returns-clause-is_true g c = c.fetch_candidates.ensures.is_true
+
+pub returns-clause-refusal : goal.returns-clause-refusal
+returns-clause-refusal g c = tt

@@ -1,28 +1,56 @@
-use Rattle.std.proofs.Common.{◌≡◌, ◌∷◌, ◌++◌, [], ◌∙◌, inl, inr, ⊎_elim, refl, sym, subst, Contains, List, length}
-use Rattle.std.proofs.lemmas.Option.{slice_get_within}
+use Rattle.std.proofs.Common.{inl, refl}
 use Rattle.std.specs.Prelude.{⊤}
-use Rattle.std.proofs.lemmas.List.Elements.{Contains-push, Contains-push_cases}
-use Rattle.resolver_clause_store.specs.declared.Origin.TheVariants.{Solvable}
-use Rattle.resolver_clause_store.specs.Variables.{limit_in, origins_in}
-use Rattle.resolver_encoding.specs.Called.{IsSeeing}
-use Rattle.resolver_encoding.specs.Encodings.{Grows, coding_for, idle}
-use Rattle.resolver_encoding.specs.Groups.{AreGroups}
-use Rattle.resolver_encoding.specs.Led.{NoneOwn, brought_candidate}
-use Rattle.resolver_encoding.specs.declared.groups.Groups.{Groups}
-use Rattle.resolver_encoding.specs.Notes.{notes_in}
-use Rattle.resolver_encoding.proofs.EncodingLemmas.{IsAskStep-of, IsAskStep-same, IsAskStep-trans, IsStep-trans}
-use Rattle.resolver_encoding.proofs.NoteLemmas.{IsStep-origins}
-use Rattle.resolver_encoding.proofs.SeeLemmas.{IsStep-seen}
-use Rattle.resolver_encoding.proofs.SoFarLemmas.{IsWithin-equal}
+use Rattle.std.proofs.lemmas.Result.{IfOk-from_err}
 use Rattle.resolver_clause_store.proofs.ListLemmas.{Contains-at as place_in}
-use Rattle.resolver_encoding.proofs.LedLemmas.{AddsOnly-same_as, AddsOnly-such, AddsOnly-then-such, AddsOnly-trans, AddsOnly-weaker, AddsSuch-push}
-use Rattle.resolver_encoding.proofs.LedLemmas.{AddsSuch-weaker, Brings-of, Brings-same, own_code, see_brings}
+use Rattle.resolver_encoding.specs.Called.{IsSeeing}
+use Rattle.resolver_encoding.specs.Led.{NoneOwn}
+use Rattle.resolver_encoding.specs.Notes.{notes_in}
+use Rattle.resolver_encoding.proofs.EncodingLemmas.{IsAskStep-same}
+use Rattle.resolver_encoding.proofs.LedLemmas.{Brings-same}
+use Rattle.resolver_encoding.proofs.RefusalLemmas.{IfErr-of}
+use Rattle.resolver_encoding.proofs.RoomLemmas.{KeepsRoom-same}
 use Rattle.resolver_encoding.proofs.encoding.Encoding.see.Goals as goal
 
-pub returns-in-Some-clause-step : goal.returns-in-Some-clause-step
-returns-in-Some-clause-step g c =
-    IsAskStep-same (g.D.Interner.universe c.args.provider.now) (IsSeeing c.args.solvable) (λ root. ⊤) (notes_in c.args.self.now)
+pub register_new-requires-clause-bounded : goal.register_new-requires-clause-bounded
+register_new-requires-clause-bounded g c = c.requires.bounded
 
-pub returns-in-Some-clause-brings : goal.returns-in-Some-clause-brings
-returns-in-Some-clause-brings g c =
-    λ root before. Brings-same (g.D.Interner.universe c.args.provider.now) (IsSeeing c.args.solvable) NoneOwn (notes_in c.args.self.now)
+pub returns-in-Some : goal.returns-in-Some
+returns-in-Some g c =
+    let u = g.D.Interner.universe c.args.provider.now in
+    let old = notes_in c.args.self.now in
+    record {
+      room = KeepsRoom-same _ c.requires.bounded;
+      step = IsAskStep-same u (IsSeeing c.args.solvable) (λ root. ⊤) old;
+      seen = place_in _ _ _ (rw c.in-Some.is at c.place_near.ensures.place);
+      asked = refl;
+      only = λ t h. inl h;
+      requirements = refl;
+      brings = λ root before. Brings-same u (IsSeeing c.args.solvable) NoneOwn old;
+      refusal = tt;
+    }
+
+pub returns-in_ok-register_new-in-None : goal.returns-in_ok-register_new-in-None
+returns-in_ok-register_new-in-None g c =
+    record {
+      room = c.register_new.ensures.room;
+      step = c.in_ok-register_new-in-None.ensures.step;
+      seen = c.in_ok-register_new-in-None.ensures.seen;
+      asked = c.in_ok-register_new-in-None.ensures.asked;
+      only = c.in_ok-register_new-in-None.ensures.only;
+      requirements = c.in_ok-register_new-in-None.ensures.requirements;
+      brings = c.register_new.ensures.brings;
+      refusal = tt;
+    }
+
+pub returns-in_err-register_new-in-None : goal.returns-in_err-register_new-in-None
+returns-in_err-register_new-in-None g c =
+    record {
+      room = c.register_new.ensures.room;
+      step = IfOk-from_err c.from_residual.result _ c.from_residual.ensures.0;
+      seen = IfOk-from_err c.from_residual.result _ c.from_residual.ensures.0;
+      asked = IfOk-from_err c.from_residual.result _ c.from_residual.ensures.0;
+      only = IfOk-from_err c.from_residual.result _ c.from_residual.ensures.0;
+      requirements = IfOk-from_err c.from_residual.result _ c.from_residual.ensures.0;
+      brings = c.register_new.ensures.brings;
+      refusal = IfErr-of c.from_residual.result _ _ c.from_residual.ensures.1 c.in_err-register_new-in-None.ensures.refusal;
+    }
