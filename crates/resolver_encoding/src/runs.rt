@@ -81,18 +81,19 @@ fn is_begun_count<T: Copy>(runs: &[Run<T>], index: usize, count: usize) -> bool
     true
 }
 
-/// Returns the number of runs that begin before an index, which takes little time if that is the guessed number or the next
-/// one.
+/// How many runs from a guess on are looked at, one after another, before a binary search.
+const NEAR: usize = 16;
+
+/// Returns the number of runs that begin before an index, which takes little time if that is the guessed number or one of
+/// the next.
 fn begun_near<T: Copy>(runs: &[Run<T>], index: usize, guess: usize) -> usize
     requires { IsNonDecreasingBy (λ (run : Run T). run.first) runs.now }
     ensures { BeginBefore runs.now index result }
 {
-    if is_begun_count(runs, index, guess) {
-        return guess;
-    }
-    let next = guess.wrapping_add(1);
-    if is_begun_count(runs, index, next) {
-        return next;
+    'counts: for count in guess..guess.saturating_add(NEAR) {
+        if is_begun_count(runs, index, count) {
+            return count;
+        }
     }
     begun_before(runs, index)
 }

@@ -90,7 +90,12 @@ impl<N: Copy + Eq + Hash + Drop, S: Copy + Eq + Hash + Drop> Encoding<N, S> {
     }
 
     /// Lets a list have the literals of a clause in place of its own, none if there is no such clause.
-    fn read_clause(&self, number: usize, literals: &mut Vec<Literal>) -> Result<(), Exhausted>
+    fn read_clause(
+        &self,
+        number: usize,
+        guess: &mut usize,
+        literals: &mut Vec<Literal>,
+    ) -> Result<(), Exhausted>
         ensures literals { OnOk result (literals.new.items ≡ clause_at (notes_in self.now).table number) }
         ensures memory { IfErr result (λ e. e ≡ Exhausted.Memory) }
     {
@@ -99,19 +104,24 @@ impl<N: Copy + Eq + Hash + Drop, S: Copy + Eq + Hash + Drop> Encoding<N, S> {
             literals.clear();
             return Ok(());
         }
-        clauses.read(number, literals)?;
+        clauses.read_near(number, guess, literals)?;
         Ok(())
     }
 
     /// Lets a list have the literals of the requirement clause at a place in place of its own, none if there is no such
     /// place.
-    fn read_asking(&self, place: usize, literals: &mut Vec<Literal>) -> Result<(), Exhausted>
+    fn read_asking(
+        &self,
+        place: usize,
+        guess: &mut usize,
+        literals: &mut Vec<Literal>,
+    ) -> Result<(), Exhausted>
         ensures literals { OnOk result (literals.new.items ≡ literals_at (notes_in self.now) place) }
         ensures memory { IfErr result (λ e. e ≡ Exhausted.Memory) }
     {
         match self.table.requirements().get(place) {
             Some(asking) => {
-                self.read_clause(asking.number as usize, literals)?;
+                self.read_clause(asking.number as usize, guess, literals)?;
                 Ok(())
             }
             None => {
@@ -126,13 +136,14 @@ impl<N: Copy + Eq + Hash + Drop, S: Copy + Eq + Hash + Drop> Encoding<N, S> {
     fn listed_candidates(
         &self,
         place: usize,
+        guess: &mut usize,
         literals: &mut Vec<Literal>,
         mut candidates: Vec<S>,
     ) -> Result<Vec<S>, Exhausted>
         ensures candidates { IfOk result (λ list. list.items ≡ candidates_at (notes_in self.now) place) }
         ensures memory { IfErr result (λ e. e ≡ Exhausted.Memory) }
     {
-        self.read_asking(place, literals)?;
+        self.read_asking(place, guess, literals)?;
         candidates.clear();
         for literal in literals.iter() {
             push_found(&mut candidates, self.stated(*literal))?;
@@ -260,6 +271,7 @@ impl<N: Copy + Eq + Hash + Drop, S: Copy + Eq + Hash + Drop> Encoding<N, S> {
         cache: &mut Cache<N, S>,
         chosen: &IndexSet<S>,
         place: usize,
+        guess: &mut usize,
         literals: &mut Vec<Literal>,
     ) -> Result<(), Interrupted<D::Cancel>>
         requires bounded { IsBounded self.old }
@@ -275,7 +287,7 @@ impl<N: Copy + Eq + Hash + Drop, S: Copy + Eq + Hash + Drop> Encoding<N, S> {
         ensures refusal { IfErr result (IsStop (D.may_cancel provider.now) (IsFull (notes_in self.new))) }
     {
         let list = replace(&mut self.spare, Vec::new(self.alloc));
-        let candidates = self.listed_candidates(place, literals, list)?;
+        let candidates = self.listed_candidates(place, guess, literals, list)?;
         self.read_candidates(provider, cache, chosen, place, &candidates)?;
         self.spare = candidates;
         Ok(())
@@ -307,8 +319,9 @@ impl<N: Copy + Eq + Hash + Drop, S: Copy + Eq + Hash + Drop> Encoding<N, S> {
     {
         let before = self.read.len();
         let mut literals = Vec::new(self.alloc);
+        let mut guess = 0;
         for place in from..until {
-            self.read_hinted_at(provider, cache, chosen, place, &mut literals)?;
+            self.read_hinted_at(provider, cache, chosen, place, &mut guess, &mut literals)?;
         }
         if before < self.read.len() {
             return Ok(true);

@@ -1,13 +1,12 @@
-use Rattle.std.proofs.Common.{List, sym, subst, Contains}
+use Rattle.std.proofs.Common.{List, ap, arith, length, refl, sym, subst, Contains}
+use Rattle.std.proofs.Common.{◌∙◌, ◌+◌, ◌≡◌}
+use Rattle.std.proofs.lemmas.List.{length_push}
+use Rattle.std.proofs.lemmas.Result.{IfOk-from_err}
+use Rattle.resolver_encoding.proofs.RefusalLemmas.{IfErr-of}
 use Rattle.resolver_clause_store.specs.SoftRun.{Exempts, asked_before, not_asked}
 use Rattle.resolver_encoding.specs.Notes.{notes_in}
-use Rattle.resolver_encoding.proofs.TurnLemmas.{StaysRead-exempting}
+use Rattle.resolver_encoding.proofs.TurnLemmas.{StaysRead-exempting, StaysRead-same}
 use Rattle.resolver_encoding.proofs.encoding.Encoding.begin_turn.Goals as goal
-
-pub returns-then-is_among-clause-exempts : goal.returns-then-is_among-clause-exempts
-returns-then-is_among-clause-exempts g c = λ absent.
-    let Asked : g.row.N.Denot → Type 0 = λ n. Contains (notes_in c.args.self.now).asked n in
-    asked_before (subst Asked c.solvable_name-name.ensures c.if-is_among.ensures)
 
 pub returns-clause-exempts : goal.returns-clause-exempts
 returns-clause-exempts g c = λ absent.
@@ -23,3 +22,59 @@ returns-clause-stays g c =
     let Asked : g.row.N.Denot → Type 0 = λ n. Contains old.asked n → ⊥ in
     StaysRead-exempting u c.args.solvable old _ (subst Asked c.solvable_name-name.ensures c.if-is_among.ensures) (λ i.
     record old { exempt = c.in_ok-append.ensures.keys i })
+
+pub append-requires-clause-identity : goal.append-requires-clause-identity
+append-requires-clause-identity g c = g.met.D.Interner.solvables_are_values
+
+pub append-requires-clause-absent : goal.append-requires-clause-absent
+append-requires-clause-absent g c = c.if-is_among-2.ensures
+
+pub returns-then-is_among : goal.returns-then-is_among
+returns-then-is_among g c =
+    let u = g.D.Interner.universe c.args.provider.now in
+    let Asked : g.row.N.Denot → Type 0 = λ n. Contains (notes_in c.args.self.now).asked n in
+    record {
+      bounded = c.requires.bounded;
+      only = refl;
+      few = omega arith;
+      exempts = λ absent. asked_before (subst Asked c.solvable_name-name.ensures c.if-is_among.ensures);
+      stays = StaysRead-same u (notes_in c.args.self.now);
+      memory = tt;
+    }
+
+pub returns-then-is_among-2 : goal.returns-then-is_among-2
+returns-then-is_among-2 g c =
+    let u = g.D.Interner.universe c.args.provider.now in
+    record {
+      bounded = c.requires.bounded;
+      only = refl;
+      few = omega arith;
+      exempts = λ absent. absurd (absent c.if-is_among-2.ensures);
+      stays = StaysRead-same u (notes_in c.args.self.now);
+      memory = tt;
+    }
+
+pub returns-in_err-append : goal.returns-in_err-append
+returns-in_err-append g c =
+    record {
+      bounded = c.requires.bounded;
+      only = refl;
+      few = omega (arith, ap length c.in_err-append.ensures.unchanged);
+      exempts = IfOk-from_err c.from_residual.result _ c.from_residual.ensures.0;
+      stays = IfOk-from_err c.from_residual.result _ c.from_residual.ensures.0;
+      memory = IfErr-of c.from_residual.result _ _ c.from_residual.ensures.1 c.in_err-append.ensures.memory;
+    }
+
+pub returns-clause-bounded : goal.returns-clause-bounded
+returns-clause-bounded g c = c.requires.bounded
+
+pub returns-clause-only : goal.returns-clause-only
+returns-clause-only g c = refl
+
+pub returns-clause-memory : goal.returns-clause-memory
+returns-clause-memory g c = tt
+
+pub returns-clause-few : goal.returns-clause-few
+returns-clause-few g c =
+    let longer : length c.append.new.set.keys ≡ length c.args.self.now.exempt.keys + 1 = ap length c.in_ok-append.ensures.keys ∙ length_push _ _ in
+    omega (arith, longer)

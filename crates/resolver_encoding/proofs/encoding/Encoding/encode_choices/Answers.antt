@@ -1,5 +1,8 @@
 use Rattle.std.proofs.Common.{sym, subst, All, Contains, List}
 use Rattle.std.specs.Prelude.{⊤}
+use Rattle.std.proofs.lemmas.Result.{IfOk-from_err}
+use Rattle.resolver_encoding.proofs.RefusalLemmas.{IfErr-of}
+use Rattle.resolver_encoding.proofs.RoomLemmas.{KeepsRoom-trans}
 use Rattle.std.proofs.lemmas.List.Elements.{All-contains}
 use Rattle.resolver_clause_store.specs.Candidates.{version_sets}
 use Rattle.resolver_clause_store.specs.declared.VersionSetId.{VersionSetId}
@@ -44,21 +47,62 @@ returns-clause-read g c =
     subst Listed c.new.ensures
     (clause_listed u (notes_in c.help_each.new.self) (notes_in c.add_with.new.self) _ (c.in_ok-add_with.ensures.added u c.requires.candidates))
 
-pub returns-in_err-help_each-clause-adds : goal.returns-in_err-help_each-clause-adds
-returns-in_err-help_each-clause-adds g c =
-    (helped_choices (g.D.Interner.universe c.args.provider.now) c.args.by c.args.requirement c.args.disjunct.items c.deref.result.now c.deref.ensures.value
-    (notes_in c.args.self.now) (notes_in c.help_each.new.self) c.help_each.ensures.adds)
-
-pub returns-in_err-add_with-clause-adds : goal.returns-in_err-add_with-clause-adds
-returns-in_err-add_with-clause-adds g c =
-    let u = g.D.Interner.universe c.args.provider.now in
-    AddsOnly-trans _ _ _ _ (helped_choices u c.args.by c.args.requirement c.args.disjunct.items c.deref.result.now c.deref.ensures.value
-    (notes_in c.args.self.now) (notes_in c.help_each.new.self) c.help_each.ensures.adds)
-    (AddsOnly-weaker _ _ (equal_mentions u c.args.by c.new.result c.args.disjunct.items c.args.requirement c.new.ensures) _ _ (c.add_with.ensures.adds u c.requires.candidates))
-
 pub returns-clause-adds : goal.returns-clause-adds
 returns-clause-adds g c =
     let u = g.D.Interner.universe c.args.provider.now in
     AddsOnly-trans _ _ _ _ (helped_choices u c.args.by c.args.requirement c.args.disjunct.items c.deref.result.now c.deref.ensures.value
     (notes_in c.args.self.now) (notes_in c.help_each.new.self) c.help_each.ensures.adds)
     (AddsOnly-weaker _ _ (equal_mentions u c.args.by c.new.result c.args.disjunct.items c.args.requirement c.new.ensures) _ _ (c.add_with.ensures.adds u c.requires.candidates))
+
+pub returns-in_err-help_each : goal.returns-in_err-help_each
+returns-in_err-help_each g c =
+    record {
+      room = c.help_each.ensures.room;
+      is_true = c.help_each.ensures.is_true;
+      step = IfOk-from_err c.from_residual.result _ c.from_residual.ensures.0;
+      read = IfOk-from_err c.from_residual.result _ c.from_residual.ensures.0;
+      adds = (helped_choices (g.D.Interner.universe c.args.provider.now) c.args.by c.args.requirement c.args.disjunct.items c.deref.result.now c.deref.ensures.value
+          (notes_in c.args.self.now) (notes_in c.help_each.new.self) c.help_each.ensures.adds);
+      refusal = IfErr-of c.from_residual.result _ _ c.from_residual.ensures.1 c.in_err-help_each.ensures.refusal;
+    }
+
+pub returns-in_err-add_with : goal.returns-in_err-add_with
+returns-in_err-add_with g c =
+    record {
+      room = KeepsRoom-trans _ _ _ c.help_each.ensures.room c.add_with.ensures.room;
+      is_true = c.help_each.ensures.is_true;
+      step = IfOk-from_err c.from_residual-in_err-add_with.result _ c.from_residual-in_err-add_with.ensures.0;
+      read = IfOk-from_err c.from_residual-in_err-add_with.result _ c.from_residual-in_err-add_with.ensures.0;
+      adds = let u = g.D.Interner.universe c.args.provider.now in
+          AddsOnly-trans _ _ _ _ (helped_choices u c.args.by c.args.requirement c.args.disjunct.items c.deref.result.now c.deref.ensures.value
+          (notes_in c.args.self.now) (notes_in c.help_each.new.self) c.help_each.ensures.adds)
+          (AddsOnly-weaker _ _ (equal_mentions u c.args.by c.new.result c.args.disjunct.items c.args.requirement c.new.ensures) _ _ (c.add_with.ensures.adds u c.requires.candidates));
+      refusal = IfErr-of c.from_residual-in_err-add_with.result _ _ c.from_residual-in_err-add_with.ensures.1 c.in_err-add_with.ensures.refusal;
+    }
+
+pub returns-clause-room : goal.returns-clause-room
+returns-clause-room g c = KeepsRoom-trans _ _ _ c.help_each.ensures.room c.add_with.ensures.room
+
+pub returns-clause-is_true : goal.returns-clause-is_true
+returns-clause-is_true g c = c.help_each.ensures.is_true
+
+pub returns-clause-refusal : goal.returns-clause-refusal
+returns-clause-refusal g c = tt
+
+pub help_each-requires-clause-bounded : goal.help_each-requires-clause-bounded
+help_each-requires-clause-bounded g c = c.requires.bounded
+
+pub help_each-requires-clause-is_true : goal.help_each-requires-clause-is_true
+help_each-requires-clause-is_true g c = c.requires.is_true
+
+pub add_with-requires-clause-bounded : goal.add_with-requires-clause-bounded
+add_with-requires-clause-bounded g c = c.help_each.ensures.room.bounded
+
+pub add_with-requires-clause-names : goal.add_with-requires-clause-names
+add_with-requires-clause-names g c = g.met.D.Interner.names_are_values
+
+pub add_with-requires-clause-solvables : goal.add_with-requires-clause-solvables
+add_with-requires-clause-solvables g c = g.met.D.Interner.solvables_are_values
+
+pub add_with-requires-clause-small : goal.add_with-requires-clause-small
+add_with-requires-clause-small g c = c.requires.small

@@ -1,5 +1,8 @@
 use Rattle.std.proofs.Common.{refl}
 use Rattle.std.specs.Prelude.{⊤}
+use Rattle.std.proofs.lemmas.Result.{IfOk-from_err}
+use Rattle.resolver_encoding.proofs.RefusalLemmas.{IfErr-of}
+use Rattle.resolver_encoding.proofs.RoomLemmas.{KeepsRoom-trans}
 use Rattle.resolver_encoding.specs.Called.{IsWantedBy, to_see}
 use Rattle.resolver_encoding.specs.Encodings.{IsTrueUnder}
 use Rattle.resolver_encoding.specs.ReadState.{has_direct}
@@ -21,27 +24,6 @@ returns-clause-step g c =
 pub returns-clause-read : goal.returns-clause-read
 returns-clause-read g c = has_direct c.args.disjunct.items refl c.in_ok-encode_choices.ensures.read
 
-pub returns-in_err-choices-clause-brings : goal.returns-in_err-choices-clause-brings
-returns-in_err-choices-clause-brings g c = λ root before.
-    let u = g.D.Interner.universe c.args.provider.now in
-    let r = c.args.requirement in
-    let Own : Origin g.row.N.Denot g.row.S.Denot → Type 0 = IsHelped u c.args.by c.args.disjunct.items in
-    let old = notes_in c.args.self.now in
-    let mid = notes_in c.choose.new.self in
-    let chosen = Brings-weaker u (IsWantedBy u r) (IsWantedBy u r) (λ call h. h) NoneOwn Own (λ o h. absurd h) old mid (c.choose.ensures.brings root before) in
-    chosen
-
-pub returns-in_err-encode_choices-clause-brings : goal.returns-in_err-encode_choices-clause-brings
-returns-in_err-encode_choices-clause-brings g c = λ root before.
-    let u = g.D.Interner.universe c.args.provider.now in
-    let r = c.args.requirement in
-    let Own : Origin g.row.N.Denot g.row.S.Denot → Type 0 = IsHelped u c.args.by c.args.disjunct.items in
-    let old = notes_in c.args.self.now in
-    let mid = notes_in c.choose.new.self in
-    let chosen = Brings-weaker u (IsWantedBy u r) (IsWantedBy u r) (λ call h. h) NoneOwn Own (λ o h. absurd h) old mid (c.choose.ensures.brings root before) in
-    Brings-trans u (IsWantedBy u r) Own old mid (notes_in c.encode_choices.new.self) (λ s h. c.in_ok-choices.ensures.step.called (to_see s) h) chosen
-    (choices_brings u Own Own r mid (notes_in c.encode_choices.new.self) (λ o h. h) c.encode_choices.ensures.adds)
-
 pub returns-clause-brings : goal.returns-clause-brings
 returns-clause-brings g c = λ root before.
     let u = g.D.Interner.universe c.args.provider.now in
@@ -52,3 +34,78 @@ returns-clause-brings g c = λ root before.
     let chosen = Brings-weaker u (IsWantedBy u r) (IsWantedBy u r) (λ call h. h) NoneOwn Own (λ o h. absurd h) old mid (c.choose.ensures.brings root before) in
     Brings-trans u (IsWantedBy u r) Own old mid (notes_in c.encode_choices.new.self) (λ s h. c.in_ok-choices.ensures.step.called (to_see s) h) chosen
     (choices_brings u Own Own r mid (notes_in c.encode_choices.new.self) (λ o h. h) c.encode_choices.ensures.adds)
+
+pub returns-in_err-choices : goal.returns-in_err-choices
+returns-in_err-choices g c =
+    record {
+      room = c.choose.ensures.room;
+      is_true = c.choose.ensures.is_true;
+      step = IfOk-from_err c.from_residual.result _ c.from_residual.ensures.0;
+      read = IfOk-from_err c.from_residual.result _ c.from_residual.ensures.0;
+      brings = λ root before.
+          let u = g.D.Interner.universe c.args.provider.now in
+          let r = c.args.requirement in
+          let Own : Origin g.row.N.Denot g.row.S.Denot → Type 0 = IsHelped u c.args.by c.args.disjunct.items in
+          let old = notes_in c.args.self.now in
+          let mid = notes_in c.choose.new.self in
+          let chosen = Brings-weaker u (IsWantedBy u r) (IsWantedBy u r) (λ call h. h) NoneOwn Own (λ o h. absurd h) old mid (c.choose.ensures.brings root before) in
+          chosen;
+      refusal = IfErr-of c.from_residual.result _ _ c.from_residual.ensures.1 c.in_err-choices.ensures.refusal;
+    }
+
+pub returns-in_err-encode_choices : goal.returns-in_err-encode_choices
+returns-in_err-encode_choices g c =
+    record {
+      room = KeepsRoom-trans _ _ _ c.choose.ensures.room c.encode_choices.ensures.room;
+      is_true = c.encode_choices.ensures.is_true;
+      step = IfOk-from_err c.from_residual-in_err-encode_choices.result _ c.from_residual-in_err-encode_choices.ensures.0;
+      read = IfOk-from_err c.from_residual-in_err-encode_choices.result _ c.from_residual-in_err-encode_choices.ensures.0;
+      brings = λ root before.
+          let u = g.D.Interner.universe c.args.provider.now in
+          let r = c.args.requirement in
+          let Own : Origin g.row.N.Denot g.row.S.Denot → Type 0 = IsHelped u c.args.by c.args.disjunct.items in
+          let old = notes_in c.args.self.now in
+          let mid = notes_in c.choose.new.self in
+          let chosen = Brings-weaker u (IsWantedBy u r) (IsWantedBy u r) (λ call h. h) NoneOwn Own (λ o h. absurd h) old mid (c.choose.ensures.brings root before) in
+          Brings-trans u (IsWantedBy u r) Own old mid (notes_in c.encode_choices.new.self) (λ s h. c.in_ok-choices.ensures.step.called (to_see s) h) chosen
+          (choices_brings u Own Own r mid (notes_in c.encode_choices.new.self) (λ o h. h) c.encode_choices.ensures.adds);
+      refusal = IfErr-of c.from_residual-in_err-encode_choices.result _ _ c.from_residual-in_err-encode_choices.ensures.1 c.in_err-encode_choices.ensures.refusal;
+    }
+
+pub returns-clause-room : goal.returns-clause-room
+returns-clause-room g c =
+    let it = KeepsRoom-trans _ _ _ c.choose.ensures.room c.encode_choices.ensures.room in
+    record { bounded = it.bounded; variables = it.variables; clauses = it.clauses }
+
+pub returns-clause-is_true : goal.returns-clause-is_true
+returns-clause-is_true g c = c.encode_choices.ensures.is_true
+
+pub returns-clause-refusal : goal.returns-clause-refusal
+returns-clause-refusal g c = tt
+
+pub choose-requires-clause-bounded : goal.choose-requires-clause-bounded
+choose-requires-clause-bounded g c = c.requires.bounded
+
+pub choose-requires-clause-is_true : goal.choose-requires-clause-is_true
+choose-requires-clause-is_true g c = c.requires.is_true
+
+pub encode_choices-requires-clause-bounded : goal.encode_choices-requires-clause-bounded
+encode_choices-requires-clause-bounded g c = c.choose.ensures.room.bounded
+
+pub encode_choices-requires-clause-is_true : goal.encode_choices-requires-clause-is_true
+encode_choices-requires-clause-is_true g c = c.choose.ensures.is_true
+
+pub encode_choices-requires-clause-candidates : goal.encode_choices-requires-clause-candidates
+encode_choices-requires-clause-candidates g c = c.in_ok-choices.ensures.candidates
+
+pub encode_choices-requires-clause-small : goal.encode_choices-requires-clause-small
+encode_choices-requires-clause-small g c = c.in_ok-choices.ensures.small
+
+pub encode_choices-requires-clause-asked : goal.encode_choices-requires-clause-asked
+encode_choices-requires-clause-asked g c = c.in_ok-choices.ensures.asked
+
+pub encode_choices-requires-clause-seen : goal.encode_choices-requires-clause-seen
+encode_choices-requires-clause-seen g c = c.in_ok-choices.ensures.seen
+
+pub encode_choices-requires-clause-once : goal.encode_choices-requires-clause-once
+encode_choices-requires-clause-once g c = c.requires.once

@@ -1,4 +1,4 @@
-use Rattle.std.proofs.Common.{Option, List, [], refl, subst, sym}
+use Rattle.std.proofs.Common.{Option, subst, sym}
 use Rattle.resolvo.specs.Problems.{AreFirstItems, AreItems}
 use Rattle.std.proofs.lemmas.Result.{IfOk-from_err}
 use Rattle.resolver_encoding.proofs.RefusalLemmas.{IfErr-of}
@@ -42,38 +42,4 @@ returns-in_err-solvable_turns-in-Some g c =
           (w.0, subst Items (sym c.in-Some.is) w.1, w.2);
       limits = c.solvable_turns.ensures.limits;
       refusal = IfErr-of c.from_residual.result _ _ c.from_residual.ensures.1 c.in_err-solvable_turns-in-Some.ensures.refusal;
-    }
-
-pub solvable_turns-requires-clause-can_next : goal.solvable_turns-requires-clause-can_next
-solvable_turns-requires-clause-can_next g c = rw c.in-Some.is at c.requires.can_next
-
-pub solvable_turns-requires-clause-ends : goal.solvable_turns-requires-clause-ends
-solvable_turns-requires-clause-ends g c = rw c.in-Some.is at c.requires.ends
-
-pub solvable_turns-requires-clause-rounds : goal.solvable_turns-requires-clause-rounds
-solvable_turns-requires-clause-rounds g c = c.requires.rounds
-
-pub solvable_turns-requires-clause-still : goal.solvable_turns-requires-clause-still
-solvable_turns-requires-clause-still g c = c.requires.still
-
-pub solvable_turns-requires-clause-counted : goal.solvable_turns-requires-clause-counted
-solvable_turns-requires-clause-counted g c = c.requires.counted
-
-pub solvable_turns-requires-clause-is_true : goal.solvable_turns-requires-clause-is_true
-solvable_turns-requires-clause-is_true g c = c.requires.is_true
-
-pub returns-in-None : goal.returns-in-None
-returns-in-None g c =
-    let Items : Option g.row.I.Denot → Type 0 = λ soft. AreItems g.I.Iterator.next_gives soft [] in
-    let First : Option g.row.I.Denot → Type 0 = λ soft. AreFirstItems g.I.Iterator.next_gives soft [] in
-    record {
-      is_true = c.requires.is_true;
-      rounds = c.requires.rounds;
-      still = c.requires.still;
-      counted = c.requires.counted;
-      between = λ root b. ([], subst Items (sym c.in-None.is) refl, b);
-      over = λ root b led. ([], subst Items (sym c.in-None.is) refl, b, led);
-      led = λ root b led. ([], subst First (sym c.in-None.is) refl, led);
-      limits = record { notes = record { variables = refl; clauses = refl }; clauses = refl; learnt = refl };
-      refusal = tt;
     }

@@ -103,9 +103,3 @@ soft_turn-requires-clause-counted g c = c.loop-solvable.invariant.counted
 
 pub soft_turn-requires-clause-still : goal.soft_turn-requires-clause-still
 soft_turn-requires-clause-still g c = c.loop-solvable.invariant.still
-
-pub soft_turn-requires-clause-is_true : goal.soft_turn-requires-clause-is_true
-soft_turn-requires-clause-is_true g c = c.loop-solvable.invariant.is_true
-
-pub soft_turn-requires-clause-rounds : goal.soft_turn-requires-clause-rounds
-soft_turn-requires-clause-rounds g c = c.loop-solvable.invariant.rounds
