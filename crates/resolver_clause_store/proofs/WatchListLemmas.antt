@@ -344,6 +344,16 @@ placed-watching lists pairs literal place list watches (Some placed) watched nam
     listed-watching lists pairs literal place placed.watch watched
     (ap (λ (ws : List Watch). slice_get ws place) (sym (is ∙ ap (λ l. list_at lists l) named)) ∙ value.1)
 
+pub found-next : (trail : Trail) (watches : List Watch) (from place : ℕ) (result : Option PlacedWatch) → IsFirstUnsatisfied trail watches from place →
+    MatchOption result (length watches ≤ place) (λ placed. (placed.place ≡ place) × (slice_get watches place ≡ Some placed.watch)) →
+    MatchOption result (IsFirstUnsatisfied trail watches from (length watches)) (IsNextUnsatisfied trail watches from)
+found-next trail watches from place None first past =
+    subst (λ n. IsFirstUnsatisfied trail watches from n) (omega (arith, first.within, past)) first
+found-next trail watches from place (Some placed) first is = record {
+  first = subst (λ n. IsFirstUnsatisfied trail watches from n) (sym is.0) first;
+  is = ap (λ n. slice_get watches n) is.0 ∙ is.1;
+}
+
 pub next-watching : (lists : List (List Watch)) (pairs : List WatchedPair) (trail : Trail) (literal : Literal) (from list : ℕ) (watches : List Watch)
     (result : Option PlacedWatch) → IsWatched lists pairs → list ≡ list_number literal → watches ≡ list_at lists list →
     MatchOption result (IsFirstUnsatisfied trail watches from (length watches)) (IsNextUnsatisfied trail watches from) →

@@ -27,11 +27,11 @@ pub struct Home {
 }
 
 /// The number of items that the largest part has room for.
-const LARGEST: u8 = 19;
+const LARGEST: u8 = 24;
 
 /// Lists by number, most of which are short.
 ///
-/// A short list takes eight bytes, and a part of one vector with room for 2, 3, 4, 6, 9, 13 or 19 items. When it outgrows its part, that part
+/// A short list takes eight bytes, and a part of one vector with room for 2, 3, 4, 6, 8, 12, 16 or 24 items. When it outgrows its part, that part
 /// serves for another list.
 #[derive(Drop)]
 pub struct ListPool<T: Copy> {
@@ -46,13 +46,22 @@ pub struct ListPool<T: Copy> {
 
 /// Returns the number of items that the next larger part has room for.
 fn wider(capacity: u8) -> u8
-    requires { capacity < 19 }
+    requires { capacity < 24 }
     ensures { capacity < result }
 {
-    if capacity < 2 {
+    if capacity == 0 {
         return 2;
     }
-    capacity + capacity / 2
+    if capacity < 4 {
+        return capacity + 1;
+    }
+    if capacity < 8 {
+        return capacity + 2;
+    }
+    if capacity < 16 {
+        return capacity + 4;
+    }
+    capacity + 8
 }
 
 /// Appends copies of an item.
@@ -216,7 +225,7 @@ impl<T: Copy> ListPool<T> {
     fn widen(&mut self, list: usize, filler: T) -> Result<(), AllocError>
         requires list { list < length (lists_in self.old) }
         requires short { (home_at self.old.homes.items list).is_long ≡ false }
-        requires small { (home_at self.old.homes.items list).capacity < 19 }
+        requires small { (home_at self.old.homes.items list).capacity < 24 }
         ensures lists { AreSameLists (lists_in self.old) (lists_in self.new) }
         ensures room { OnOk result (HasRoom (home_at self.new.homes.items list)) }
     {
@@ -273,6 +282,7 @@ impl<T: Copy> ListPool<T> {
     }
 
     /// Makes room for one more item of a list. An error changes no list.
+    #[inline(never)]
     fn make_room(&mut self, list: usize, filler: T) -> Result<(), AllocError>
         requires { list < length (lists_in self.old) }
         ensures lists { AreSameLists (lists_in self.old) (lists_in self.new) }

@@ -98,19 +98,18 @@ fn replaced(pair: WatchedPair, from: Literal, to: Literal) -> WatchedPair
     }
 }
 
-/// Returns the first watch from this place on whose blocker is not true.
-fn first_unsatisfied(watches: &[Watch], trail: &Trail, from: usize) -> Option<PlacedWatch>
+/// Returns the first place from this one on whose blocker is not true, or the number of watches.
+fn first_unsatisfied(watches: &[Watch], trail: &Trail, from: usize) -> usize
     requires from { from ≤ length watches.now }
     requires below { All (λ (watch : Watch). watch.blocker_variable < variable_count trail.now) watches.now }
-    ensures { MatchOption result (IsFirstUnsatisfied trail.now watches.now from (length watches.now)) (IsNextUnsatisfied trail.now watches.now from) }
+    ensures { IsFirstUnsatisfied trail.now watches.now from result }
 {
     'watches: for place in from..watches.len() {
-        let watch = watches[place];
-        if !trail.is_true(watch.blocker()) {
-            return Some(PlacedWatch { place, watch });
+        if !trail.is_true(watches[place].blocker()) {
+            return place;
         }
     }
-    None
+    watches.len()
 }
 
 /// Returns the watch at a place, if there is one.
@@ -218,7 +217,8 @@ impl Watches {
             (IsNextUnsatisfied trail.now (list_at (lists_of self.now) (list_number literal)) from) }
         ensures watching { IfSome result (λ placed. IsWatching (pairs_of self.now) placed.watch.number literal) }
     {
-        first_unsatisfied(self.lists.at(list_number(literal)), trail, from)
+        let watches = self.lists.at(list_number(literal));
+        watch_in(watches, first_unsatisfied(watches, trail, from))
     }
 
     /// Makes a clause watch one more literal, with `pair` as its new pair.

@@ -176,6 +176,7 @@ impl Propagator {
     }
 
     /// Passes by a clause whose other watched literal is true. That literal becomes the blocker.
+    #[inline(always)]
     fn pass_by_other(
         &mut self,
         trail: &Trail,
