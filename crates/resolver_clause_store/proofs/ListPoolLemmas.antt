@@ -639,8 +639,12 @@ module _ {T : Type 0} where
         (ap (λ (h : Home). h.capacity) (sym short-at)) refl short-home fits
 
     pub short-place : (place : ℕ) → place < length (list_of (map (items_in items long) homes) list) → place < home.length
-    short-place place below = omega (arith, below, ap (λ (xs : List T). length xs) (lists-at items long homes list ∙ short-items),
-        part-length items home.place home.length (omega (arith, short-filled, short-inside)))
+    short-place place below = omega (
+      arith,
+      below,
+      ap (λ (xs : List T). length xs) (lists-at items long homes list ∙ short-items),
+      part-length items home.place home.length (omega (arith, short-filled, short-inside)),
+    )
 
     pub last-inside : (place : ℕ) → place < home.length → home.place + (home.length - 1) < length items
     last-inside place below = omega (arith, below, short-filled, short-inside)

@@ -1,6 +1,6 @@
 -- Long lists by number, one of which is at hand.
-use Rattle.std.proofs.Common.{◌≡◌, ◌≢◌, ◌⊎◌, ℕ, zero, suc, ◌+◌, ◌<◌, List, [], ◌∷◌, ◌++◌, ◌-◌, length, get_or, map, set, take}
-use Rattle.std.proofs.Common.{arith, refl, sym, ⊎_elim, ap, ◌∙◌, subst, length-append, length-set, get_or-set_other, get_or-set_same}
+use Rattle.std.proofs.Common.{◌≡◌, ◌≢◌, ℕ, zero, suc, ◌<◌, List, [], ◌∷◌, ◌++◌, ◌-◌, length, get_or, set, take}
+use Rattle.std.proofs.Common.{arith, refl, sym, ⊎_elim, ap, ◌∙◌, subst, length-set, get_or-set_other, get_or-set_same}
 use Rattle.std.specs.Prelude.{Vec}
 use Rattle.std.specs.List.{swap_remove}
 use Rattle.std.specs.declared.alloc.Global.{Global}
@@ -79,8 +79,13 @@ module _ {T : Type 0} where
   puts-other-in now old new number other at_hand f is among inside differ puts =
       subst (λ (ls : List (List T)). PutsList ls (lists_with new number at_hand) other (f (list_of ls other))) is
       (puts-other old new number other at_hand f
-      (among (omega (arith, inside, ap (λ (ls : List (List T)). length ls) is, length-set (items_of old) number at_hand,
-      length-map old (λ (v : Vec T Global). v.items)))) differ puts)
+      (among (omega (
+        arith,
+        inside,
+        ap (λ (ls : List (List T)). length ls) is,
+        length-set (items_of old) number at_hand,
+        length-map old (λ (v : Vec T Global). v.items),
+      ))) differ puts)
 
   -- one of the lists changes
   pub read-is : (lists : List (Vec T Global)) (number : ℕ) (old : Vec T Global) → old ≡ get_or lists number old → number < length lists →

@@ -10,7 +10,7 @@ use Rattle.resolver_clause_store.specs.Formula.{IsBelow, clause_at}
 use Rattle.resolver_clause_store.specs.Lists.{IsWithin}
 use Rattle.resolver_clause_store.specs.Near.{IsNear}
 use Rattle.resolver_clause_store.specs.Caches.{Covers}
-use Rattle.resolver_clause_store.specs.Universe.{Universe, Demands, Hint, hint_none}
+use Rattle.resolver_clause_store.specs.Universe.{Universe, Demands, Hint}
 use Rattle.resolver_clause_store.specs.Variables.{Keeps}
 use Rattle.resolver_clause_store.specs.declared.By.TheVariants.{Solvable as BySolvable}
 use Rattle.resolver_clause_store.specs.declared.Literal.{Literal}

@@ -1,5 +1,5 @@
 -- Solvables grouped by the names of their packages.
-use Rattle.std.specs.Prelude.{ℕ, ◌≡◌, ◌<◌, ◌⊎◌, List, [], Some, Contains, length, slice_get}
+use Rattle.std.specs.Prelude.{ℕ, ◌≡◌, ◌<◌, ◌⊎◌, List, Some, Contains, length, slice_get}
 use Rattle.resolver_clause_store.specs.ListPools.{list_of}
 use Rattle.resolver_clause_store.specs.ListPoolsView.{lists_in}
 use Rattle.resolver_clause_store.specs.Variables.{AreDistinct}

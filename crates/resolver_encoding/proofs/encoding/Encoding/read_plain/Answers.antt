@@ -17,8 +17,6 @@ use Rattle.resolver_clause_store.proofs.ListLemmas.{Contains-here as here}
 use Rattle.std.proofs.lemmas.Result.{IfOk-from_err}
 use Rattle.resolver_encoding.proofs.RefusalLemmas.{IfErr-of}
 use Rattle.resolver_encoding.proofs.RoomLemmas.{KeepsRoom-trans}
-use Rattle.std.proofs.Common.{rules}
-use Rattle.std.proofs.lemmas.Grind.{common_steps}
 use Rattle.resolver_encoding.proofs.encoding.Encoding.read_plain.Goals as goal
 
 pub returns-in_err-imply_gate : goal.returns-in_err-imply_gate

@@ -10,13 +10,13 @@ use Rattle.resolver_encoding.specs.Groups.{AreGroups}
 use Rattle.resolver_encoding.specs.Led.{NoneOwn, brought_candidate}
 use Rattle.resolver_encoding.specs.declared.groups.Groups.{Groups}
 use Rattle.resolver_encoding.specs.Notes.{notes_in}
-use Rattle.resolver_encoding.proofs.EncodingLemmas.{IsAskStep-of, IsAskStep-same, IsAskStep-trans, IsStep-trans}
+use Rattle.resolver_encoding.proofs.EncodingLemmas.{IsAskStep-of, IsAskStep-trans, IsStep-trans}
 use Rattle.resolver_encoding.proofs.NoteLemmas.{IsStep-origins}
 use Rattle.resolver_encoding.proofs.SeeLemmas.{IsStep-seen}
 use Rattle.resolver_encoding.proofs.SoFarLemmas.{IsWithin-equal}
 use Rattle.resolver_clause_store.proofs.ListLemmas.{Contains-at as place_in}
 use Rattle.resolver_encoding.proofs.LedLemmas.{AddsOnly-same_as, AddsOnly-such, AddsOnly-then-such, AddsOnly-trans, AddsOnly-weaker, AddsSuch-push}
-use Rattle.resolver_encoding.proofs.LedLemmas.{AddsSuch-weaker, Brings-of, Brings-same, own_code, see_brings}
+use Rattle.resolver_encoding.proofs.LedLemmas.{AddsSuch-weaker, Brings-of, own_code, see_brings}
 use Rattle.std.proofs.lemmas.Result.{IfOk-from_err}
 use Rattle.resolver_encoding.proofs.RefusalLemmas.{IfErr-of}
 use Rattle.resolver_encoding.proofs.RefusalLemmas.{shortage_at_limit}

@@ -1,4 +1,4 @@
-use Rattle.std.proofs.Common.{◌≡◌, ◌++◌, ◌∷◌, [], ap, ◌∙◌, length}
+use Rattle.std.proofs.Common.{◌++◌, ◌∷◌, [], ap, ◌∙◌, length}
 use Rattle.resolver_encoding.specs.Kinds.{IsStored, kind_in}
 use Rattle.resolver_encoding.proofs.LongerRunLemmas.{inside_gone_on, some_stored, values_gone_on}
 use Rattle.resolver_encoding.proofs.kinds.ClauseKinds.push_in_run.Goals as goal
