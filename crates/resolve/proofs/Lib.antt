@@ -12,3 +12,4 @@ pub mod LinkLemmas
 pub mod SolvableLemmas
 pub mod RangeLemmas
 pub mod ListingLemmas
+pub mod RequirementLinkLemmas

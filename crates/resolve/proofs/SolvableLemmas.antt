@@ -1,12 +1,15 @@
 -- What was declared of each version.
 use Rattle.std.proofs.Common.{◌≡◌, ℕ, suc, ◌+◌, ◌<◌, ◌≤◌, List, [], ◌∷◌, ◌++◌, length, get_or, map, arith, refl, sym, ap, ◌∙◌}
-use Rattle.std.specs.Prelude.{All, slice_index_or, slice_set}
+use Rattle.std.specs.Prelude.{All, Bool, Some, true, slice_index_or, slice_set}
+use Rattle.resolver_clause_store.specs.declared.ids.StringId.{StringId}
 use Rattle.std.proofs.lemmas.List.{get_or-map, get_or_push, length-map, map-set}
 use Rattle.resolver_clause_store.specs.declared.ids.VersionSetId.{VersionSetId}
 use Rattle.resolver_clause_store.specs.declared.data.ConditionalRequirement.{ConditionalRequirement}
 use Rattle.resolve.specs.declared.catalog.solvables.Row.{Row}
+use Rattle.resolve.specs.declared.catalog.solvables.State.{State}
+use Rattle.resolve.specs.declared.catalog.solvables.State.TheVariants.{Unknown}
 use Rattle.resolve.specs.Links.{up_to}
-use Rattle.resolve.specs.Solvables.{IsWithin, Solvable, no_needs, solvable_in, with_constraint, with_requirement}
+use Rattle.resolve.specs.Solvables.{IsWithin, Solvable, excluded_in, no_needs, reason_in, solvable_in, with_constraint, with_requirement}
 use Rattle.resolve.proofs.LinkLemmas.{up_to-kept}
 
 -- what stands at a place
@@ -26,7 +29,7 @@ same_rows rs rs' cs cs' (row ∷ rows) kept held all =
     let one = kept row.requirements first.required in
     let other = held row.constraints first.constrained in
     let others = same_rows rs rs' cs cs' rows kept held rest in
-    λ i. record { requirements = one i; constraints = other i; unknown = row.unknown; is_excluded = row.is_excluded } ∷ others i
+    λ i. record { requirements = one i; constraints = other i; unknown = reason_in row.state; is_excluded = excluded_in row.state } ∷ others i
 
 -- the list that was made last
 up_to-last : {T : Type 0} (lists : List (List T)) (made : List T) (n : ℕ) → n ≡ length lists + 1 → up_to (lists ++ made ∷ []) n ≡ made
@@ -80,3 +83,15 @@ pub inside : (rs : List (List ConditionalRequirement)) (cs : List (List VersionS
     map (solvable_in rs cs) rows ≡ value → place < length value → place < length rows
 inside rs cs rows place value view within =
     omega (arith, within, ap length view, length-map rows (solvable_in rs cs))
+
+pub excluded_says : (rs : List (List ConditionalRequirement)) (cs : List (List VersionSetId)) (row : Row) (state : State) →
+    reason_in state ≡ reason_in row.state → excluded_in state ≡ true →
+    solvable_in rs cs (record row { state = state }) ≡ record (solvable_in rs cs row) { is_excluded = true }
+excluded_says rs cs row state reason excluded =
+    λ i. record { requirements = up_to rs row.requirements; constraints = up_to cs row.constraints; unknown = reason i; is_excluded = excluded i }
+
+pub unknown_says : (rs : List (List ConditionalRequirement)) (cs : List (List VersionSetId)) (row : Row) (is_excluded : Bool) (reason : StringId) →
+    is_excluded ≡ excluded_in row.state →
+    solvable_in rs cs (record row { state = Unknown is_excluded reason }) ≡ record (solvable_in rs cs row) { unknown = Some reason }
+unknown_says rs cs row is_excluded reason same =
+    λ i. record { requirements = up_to rs row.requirements; constraints = up_to cs row.constraints; unknown = Some reason; is_excluded = same i }

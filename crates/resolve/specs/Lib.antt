@@ -19,3 +19,4 @@ pub mod NotingProvider
 pub mod Links
 pub mod Solvables
 pub mod Listings
+pub mod RequirementLinks

@@ -7,6 +7,7 @@ ghost use Rattle.resolve.specs.Packages.{KeepsPackages, version_at};
 mod links;
 mod packages;
 mod provider;
+mod requirement_links;
 mod solvables;
 mod tables;
 #[cfg(test)]

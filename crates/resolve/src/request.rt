@@ -52,6 +52,7 @@ pub fn read_request(alloc: Global, input: &[u8]) -> Result<Request, InputError>
     let mut request = Request::new(alloc);
     let mut known = KnownWords::new(alloc);
     let read = read_lines(&mut request, &mut known, input);
+    known.shrink();
     drop(known);
     match read {
         Ok(()) => Ok(request),

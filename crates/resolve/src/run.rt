@@ -221,7 +221,7 @@ fn answer<R: Read + Drop>(alloc: Global, input: R) -> Result<Outcome, Fault>
 /// Reads the statements of an input, and frees its text, which leaves that memory to the solver.
 ///
 /// The buffer is shrunk first. After a large block is freed, the C library's allocator takes blocks of that size from its heap, where a list
-/// that grows is copied and leaves a hole.
+/// that grows is copied and leaves a hole. (`read_request` does the same with the words that it knows.)
 fn read_all<R: Read + Drop>(alloc: Global, input: R) -> Result<Request, Fault> {
     let mut bytes = read_input(alloc, input)?;
     let request = read_request(alloc, &bytes);

@@ -114,7 +114,7 @@ impl DecideQueue {
         Ok(())
     }
 
-    /// Adds the packages of new variables.
+    /// Adds the packages of the next variables.
     pub fn learn_owners(&mut self, owners: &[Owner]) -> Result<(), AllocError>
         ensures { OnOk result (StaysQueued self.old self.new) }
     {

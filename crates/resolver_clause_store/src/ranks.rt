@@ -144,11 +144,9 @@ impl Ranks {
         }
     }
 
-    /// Adds the packages of new variables.
+    /// Adds the packages of the next variables.
     pub fn learn_owners(&mut self, owners: &[Owner]) -> Result<(), AllocError> {
-        'variables: for variable in self.owners.len()..owners.len() {
-            self.owners.push(owners[variable])?;
-        }
+        self.owners.extend_from_slice(owners)?;
         Ok(())
     }
 

@@ -74,7 +74,7 @@ at_place variable start steps sign here is same = λ i. record { variable = sym 
 module _ (listed : List (List Literal)) (from : ℕ) (positive : Bool) (variable digits more steps : ℕ) (first second : Literal)
     (lower : (i : ℕ) → i < steps → bit more i ≡ bit digits i) (digit : bit more steps ≡ second.positive) where
   pub longer_row : ContinuesRow from positive variable steps first second →
-      Lengthens (literals_in listed) (IsStored (length listed)) (Row from positive variable digits) steps (first ∷ second ∷ []) (Row from positive variable more)
+      Lengthens (literals_in listed) (IsStored (length listed)) (Row positive from variable digits) steps (first ∷ second ∷ []) (Row positive from variable more)
   longer_row goes = record {
     same = λ k less. ap (λ sign. literal from positive ∷ literal (variable + k) sign ∷ []) (lower k less);
     is = ap (λ one. one ∷ literal (variable + steps) (bit more steps) ∷ []) (sym goes.same) ∙
@@ -83,7 +83,7 @@ module _ (listed : List (List Literal)) (from : ℕ) (positive : Bool) (variable
   }
 
   pub longer_column : ContinuesColumn from positive variable steps first second →
-      Lengthens (literals_in listed) (IsStored (length listed)) (Column from positive variable digits) steps (first ∷ second ∷ []) (Column from positive variable more)
+      Lengthens (literals_in listed) (IsStored (length listed)) (Column positive from variable digits) steps (first ∷ second ∷ []) (Column positive from variable more)
   longer_column goes = record {
     same = λ k less. ap (λ sign. literal (from + k) positive ∷ literal variable sign ∷ []) (lower k less);
     is = ap (λ one. one ∷ literal variable (bit more steps) ∷ []) (sym goes.other) ∙
@@ -93,25 +93,25 @@ module _ (listed : List (List Literal)) (from : ℕ) (positive : Bool) (variable
 
 -- a row of one clause is a column
 pub row_as_column : (listed : List (List Literal)) (from : ℕ) (positive : Bool) (variable digits steps : ℕ) (literals : List Literal) (longer : StoredClause) →
-    steps ≡ 1 → Lengthens (literals_in listed) (IsStored (length listed)) (Column from positive variable digits) steps literals longer →
-    Lengthens (literals_in listed) (IsStored (length listed)) (Row from positive variable digits) steps literals longer
+    steps ≡ 1 → Lengthens (literals_in listed) (IsStored (length listed)) (Column positive from variable digits) steps literals longer →
+    Lengthens (literals_in listed) (IsStored (length listed)) (Row positive from variable digits) steps literals longer
 row_as_column listed from positive variable digits steps literals longer one goes = record {
   same = λ k less.
       let none : k ≡ 0 = omega (arith, less, one) in
-      let Same : ℕ → Type 0 = λ k. literals_in listed longer k ≡ literals_in listed (Row from positive variable digits) k in
+      let Same : ℕ → Type 0 = λ k. literals_in listed longer k ≡ literals_in listed (Row positive from variable digits) k in
       subst Same (sym none) (goes.same 0 (omega (arith, one)) ∙ first from variable);
   is = goes.is;
   inside = goes.inside;
 }
   where
-    first : (a b : ℕ) → literals_in listed (Column a positive b digits) 0 ≡ literals_in listed (Row a positive b digits) 0
+    first : (a b : ℕ) → literals_in listed (Column positive a b digits) 0 ≡ literals_in listed (Row positive a b digits) 0
     first a b =
         let left : a + 0 ≡ a = omega arith in
         let right : b ≡ b + 0 = omega arith in
         λ i. literal (left i) positive ∷ literal (right i) (bit digits 0) ∷ []
 
 pub row_stands : (listed : List (List Literal)) (from variable digits : ℕ) (first second : Literal) → from ≡ first.variable → variable ≡ second.variable →
-    variable < 2 ^ 32 → bit digits 0 ≡ second.positive → StandsFor listed (first ∷ second ∷ []) (Row from first.positive variable digits)
+    variable < 2 ^ 32 → bit digits 0 ≡ second.positive → StandsFor listed (first ∷ second ∷ []) (Row first.positive from variable digits)
 row_stands listed from variable digits first second one other below digit = record {
   is = ap (λ a. a ∷ literal (variable + 0) (bit digits 0) ∷ []) (sym (literal_is first from first.positive (sym one) refl)) ∙
       ap (λ b. first ∷ b ∷ []) (at_place second.variable variable 0 second.positive (bit digits 0) (omega (arith, other)) digit);
@@ -119,7 +119,7 @@ row_stands listed from variable digits first second one other below digit = reco
 }
 
 pub span_stands : (listed : List (List Literal)) (from start count : ℕ) (positive : Bool) (first : Literal) (rest : List Literal) → from ≡ first.variable →
-    count ≡ length rest → IsSpan start positive rest → StandsFor listed (first ∷ rest) (Span from first.positive start count positive)
+    count ≡ length rest → IsSpan start positive rest → StandsFor listed (first ∷ rest) (Span first.positive positive from start count)
 span_stands listed from start count positive first rest one long span = record {
   is = ap (λ a. a ∷ map (λ number. literal number positive) (range_with_len start count)) (sym (literal_is first from first.positive (sym one) refl)) ∙
       ap (λ list. first ∷ list) (ap (λ n. map (λ number. literal number positive) (range_with_len start n)) long ∙ sym span.are);
@@ -168,8 +168,8 @@ pair_is (a ∷ b ∷ c ∷ rest) first second least below one other = absurd (om
 
 -- a row of one clause may go on as a column
 pub row_or_column : (listed : List (List Literal)) (from : ℕ) (positive : Bool) (variable digits steps : ℕ) (literals : List Literal)
-    (found : Option StoredClause) → steps ≡ 1 → IfSome found (Lengthens (literals_in listed) (IsStored (length listed)) (Column from positive variable digits) steps literals) →
-    IfSome found (Lengthens (literals_in listed) (IsStored (length listed)) (Row from positive variable digits) steps literals)
+    (found : Option StoredClause) → steps ≡ 1 → IfSome found (Lengthens (literals_in listed) (IsStored (length listed)) (Column positive from variable digits) steps literals) →
+    IfSome found (Lengthens (literals_in listed) (IsStored (length listed)) (Row positive from variable digits) steps literals)
 row_or_column listed from positive variable digits steps literals None one goes = tt
 row_or_column listed from positive variable digits steps literals (Some longer) one goes =
     row_as_column listed from positive variable digits steps literals longer one goes

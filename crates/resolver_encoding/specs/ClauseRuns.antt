@@ -13,9 +13,9 @@ literal number positive = record { variable = number; positive = positive }
 
 -- the literals of the clause that is so many steps after the first one that is stored like this, where these are the listed clauses
 abbrev pub literals_in : List (List Literal) → StoredClause → ℕ → List Literal
-literals_in listed (Row first positive second digits) steps = literal first positive ∷ literal (second + steps) (bit digits steps) ∷ []
-literals_in listed (Column first positive second digits) steps = literal (first + steps) positive ∷ literal second (bit digits steps) ∷ []
-literals_in listed (Span first positive second count sign) steps =
+literals_in listed (Row positive first second digits) steps = literal first positive ∷ literal (second + steps) (bit digits steps) ∷ []
+literals_in listed (Column positive first second digits) steps = literal (first + steps) positive ∷ literal second (bit digits steps) ∷ []
+literals_in listed (Span positive sign first second count) steps =
     literal first positive ∷ map (λ number. literal number sign) (range_with_len second count)
 literals_in listed (Listed number) steps = clause_at listed number
 
@@ -25,9 +25,9 @@ literals_at listed entry = literals_in listed entry.0 entry.1
 
 -- a row or a column reaches this far, the variables of a span are below 2^32, and a listed clause is one of so many
 abbrev pub IsStored : ℕ → StoredClause → ℕ → Type 0
-IsStored count (Row first positive second digits) steps = (steps < 32) × (second + steps < 2 ^ 32)
-IsStored count (Column first positive second digits) steps = (steps < 32) × (first + steps < 2 ^ 32)
-IsStored count (Span first positive second length sign) steps = second + length ≤ 2 ^ 32
+IsStored count (Row positive first second digits) steps = (steps < 32) × (second + steps < 2 ^ 32)
+IsStored count (Column positive first second digits) steps = (steps < 32) × (first + steps < 2 ^ 32)
+IsStored count (Span positive sign first second length) steps = second + length ≤ 2 ^ 32
 IsStored count (Listed number) steps = number < count
 
 abbrev pub IsStoredAt : ℕ → StoredClause × ℕ → Type 0

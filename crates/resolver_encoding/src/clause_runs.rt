@@ -15,25 +15,25 @@ use std::alloc::{AllocError, Global};
 use std::marker::Model;
 
 /// The literals of a clause, or of a run of clauses with two literals each, as they are stored. Variables are given by
-/// their numbers.
+/// their numbers. The signs come first, so it takes sixteen bytes.
 #[derive(Clone, Copy)]
 pub enum StoredClause {
     /// A run of clauses with the same first literal. The variables of the second literals are consecutive.
     ///
-    /// The fields are the first variable, whether its literal is positive, the second variable of the first clause, and a
+    /// The fields are whether the first literal is positive, its variable, the second variable of the first clause, and a
     /// number whose digits are the signs of the second literals.
-    Row(u32, bool, u32, u32),
+    Row(bool, u32, u32, u32),
     /// A run of clauses with the same second variable. The variables of the first literals are consecutive, and these
     /// literals are alike in sign.
     ///
-    /// The fields are the first variable of the first clause, whether its literal is positive, the second variable, and a
-    /// number whose digits are the signs of the second literals.
-    Column(u32, bool, u32, u32),
+    /// The fields are whether the first literals are positive, the first variable of the first clause, the second variable,
+    /// and a number whose digits are the signs of the second literals.
+    Column(bool, u32, u32, u32),
     /// One clause. The variables of the literals after the first one are consecutive, and these literals are alike in sign.
     ///
-    /// The fields are the first variable, whether its literal is positive, the second variable, the number of literals
-    /// after the first one, and whether they are positive.
-    Span(u32, bool, u32, u32, bool),
+    /// The fields are whether the first literal is positive, whether those after it are, the first variable, the second
+    /// one, and the number of literals after the first one.
+    Span(bool, bool, u32, u32, u32),
     /// The clause with this number in a list of clauses.
     Listed(u32),
 }
@@ -109,7 +109,7 @@ fn longer_column(
     second: Literal,
 ) -> Option<StoredClause>
     ensures { (listed : List (List Literal)) →
-        IfSome result (Lengthens (literals_in listed) (IsStored (length listed)) (Column start.first start.positive start.second digits) steps (first ∷ second ∷ [])) }
+        IfSome result (Lengthens (literals_in listed) (IsStored (length listed)) (Column start.positive start.first start.second digits) steps (first ∷ second ∷ [])) }
 {
     let sign = second.positive;
     if !continues_column(start, steps, first, second) {
@@ -121,7 +121,7 @@ fn longer_column(
         second,
     } = start;
     let digits = with_digit(digits, steps as u32, sign);
-    Some(StoredClause::Column(first, positive, second, digits))
+    Some(StoredClause::Column(positive, first, second, digits))
 }
 
 /// Returns how a row is stored once it has the clause of these two literals, too, or `None` if that is not its next one.
@@ -134,7 +134,7 @@ fn longer_row(
     second: Literal,
 ) -> Option<StoredClause>
     ensures { (listed : List (List Literal)) →
-        IfSome result (Lengthens (literals_in listed) (IsStored (length listed)) (Row start.first start.positive start.second digits) steps (first ∷ second ∷ [])) }
+        IfSome result (Lengthens (literals_in listed) (IsStored (length listed)) (Row start.positive start.first start.second digits) steps (first ∷ second ∷ [])) }
 {
     if steps == 1 && second.variable.index() == start.second as usize {
         return longer_column(start, digits, steps, first, second);
@@ -149,7 +149,7 @@ fn longer_row(
         second,
     } = start;
     let digits = with_digit(digits, steps as u32, sign);
-    Some(StoredClause::Row(first, positive, second, digits))
+    Some(StoredClause::Row(positive, first, second, digits))
 }
 
 /// Returns how the last run is stored once it has the clause of these literals, too, or `None` if that begins a run.
@@ -163,7 +163,7 @@ fn longer(stored: &Runs<StoredClause>, literals: &[Literal]) -> Option<StoredCla
         return None;
     };
     match last {
-        StoredClause::Row(row, positive, variable, digits) => {
+        StoredClause::Row(positive, row, variable, digits) => {
             let start = Start {
                 first: row,
                 positive,
@@ -171,7 +171,7 @@ fn longer(stored: &Runs<StoredClause>, literals: &[Literal]) -> Option<StoredCla
             };
             longer_row(start, digits, steps, *first, *second)
         }
-        StoredClause::Column(column, positive, variable, digits) => {
+        StoredClause::Column(positive, column, variable, digits) => {
             let start = Start {
                 first: column,
                 positive,
@@ -216,7 +216,7 @@ fn span_of(first: Literal, rest: &[Literal]) -> Result<Option<StoredClause>, All
     if !is_span(rest, start, positive) {
         return Ok(None);
     }
-    let span = StoredClause::Span(number, first.positive, start, rest.len() as u32, positive);
+    let span = StoredClause::Span(first.positive, positive, number, start, rest.len() as u32);
     Ok(Some(span))
 }
 
@@ -227,7 +227,7 @@ fn row_of(first: Literal, second: Literal) -> Result<StoredClause, AllocError>
     let number = narrow(first.variable.index())?;
     let other = narrow(second.variable.index())?;
     let digits = with_digit(0, 0, second.positive);
-    Ok(StoredClause::Row(number, first.positive, other, digits))
+    Ok(StoredClause::Row(first.positive, number, other, digits))
 }
 
 /// Returns how the clause of these literals is stored, or `None` if it is to be listed.
@@ -283,7 +283,7 @@ fn read(
     ensures { OnOk result (literals.new.items ≡ literals.old.items ++ literals_in listed.now stored steps) }
 {
     match stored {
-        StoredClause::Row(first, positive, second, digits) => {
+        StoredClause::Row(positive, first, second, digits) => {
             let sign = has_digit(digits as usize, steps as u32);
             push_two(
                 literals,
@@ -292,7 +292,7 @@ fn read(
             )?;
             Ok(())
         }
-        StoredClause::Column(first, positive, second, digits) => {
+        StoredClause::Column(positive, first, second, digits) => {
             let sign = has_digit(digits as usize, steps as u32);
             push_two(
                 literals,
@@ -301,7 +301,7 @@ fn read(
             )?;
             Ok(())
         }
-        StoredClause::Span(first, positive, second, count, sign) => {
+        StoredClause::Span(positive, sign, first, second, count) => {
             literals.push(literal_of(first, positive))?;
             push_span(literals, second, count, sign)?;
             Ok(())
@@ -456,13 +456,13 @@ impl ClauseRuns {
         };
         let more = steps.wrapping_sub(1);
         match last {
-            StoredClause::Row(first, _, second, _) => {
+            StoredClause::Row(_, first, second, _) => {
                 (first as usize, (second as usize).wrapping_add(more))
             }
-            StoredClause::Column(first, _, second, _) => {
+            StoredClause::Column(_, first, second, _) => {
                 ((first as usize).wrapping_add(more), second as usize)
             }
-            StoredClause::Span(first, _, second, _, _) => (first as usize, second as usize),
+            StoredClause::Span(_, _, first, second, _) => (first as usize, second as usize),
             StoredClause::Listed(_) => last_front_of(&self.listed),
         }
     }

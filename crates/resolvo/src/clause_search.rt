@@ -407,8 +407,9 @@ impl ClauseSearch {
     /// Loads the new part of these lists, which only grow.
     ///
     /// The requirement clauses are among the given ones. `union_ends` has the places where the candidates of each version
-    /// set end, for the unions among them, by the numbers of the clauses. The owner of a variable is its package's
-    /// number, if the variable stands for a solvable.
+    /// set end, for the unions among them, by the numbers of the clauses. `owners` is not such a list: it has the owners of
+    /// the variables that are new, if they are known. The owner of a variable is its package's number, if the variable
+    /// stands for a solvable.
     pub fn load(
         &mut self,
         alloc: Global,

@@ -10,8 +10,7 @@ use resolver_clause_store::{
 use std::alloc::Global;
 use std::hash::Hash;
 
-/// The number of each variable's package, if the variable stands for a solvable. Packages are numbered in the order of
-/// their variables.
+/// The numbers of packages, in the order of their variables, and the owners of the variables that were followed last.
 #[derive(Drop)]
 pub struct Owners<N: Copy + Eq + Hash + Drop> {
     names: IndexSet<N>,
@@ -27,7 +26,7 @@ impl<N: Copy + Eq + Hash + Drop> Owners<N> {
         }
     }
 
-    /// Returns the owner of each variable.
+    /// Returns the owners of the variables that were followed last.
     pub fn as_slice(&self) -> &[Owner] {
         self.owners.as_slice()
     }
@@ -85,15 +84,17 @@ impl<N: Copy + Eq + Hash + Drop> Owners<N> {
         Ok(())
     }
 
-    /// Appends the owners of the variables that were not followed yet.
+    /// Follows the variables from this number on, which are new.
     pub fn follow<S: Copy + Eq + Hash + Drop, D: DependencyProvider<NameId = N, SolvableId = S>>(
         &mut self,
         provider: &D,
         variables: &Variables<N, S>,
+        from: usize,
     ) -> Result<(), Exhausted>
         ensures memory { IfErr result (λ e. e ≡ Memory) }
     {
-        'variables: for index in self.owners.len()..variables.len() {
+        self.owners.clear();
+        'variables: for index in from..variables.len() {
             self.follow_variable(provider, variables, index)?;
         }
         Ok(())

@@ -161,7 +161,8 @@ impl<N: Copy + Eq + Hash + Drop, S: Copy + Eq + Hash + Drop> Rounds<N, S> {
         ensures memory { IfErr result (λ e. e ≡ Exhausted.Memory) }
     {
         let known = self.encoding.variables();
-        self.owners.follow(provider, known)?;
+        let loaded = self.search.trail().variable_count();
+        self.owners.follow(provider, known, loaded)?;
         self.search.load(
             self.alloc,
             known.len(),

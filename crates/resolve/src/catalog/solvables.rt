@@ -1,12 +1,53 @@
 //! What was declared of each version.
 
 ghost use Rattle.std.specs.Prelude.{◌≡◌, ◌<◌, ◌++◌, ◌∷◌, [], IfOk, OnErr, OnOk, Some, length, slice_index_or, slice_set, true};
-ghost use Rattle.resolve.specs.Solvables.{no_needs, with_constraint, with_requirement};
+ghost use Rattle.resolve.specs.Solvables.{excluded_in, no_needs, reason_in, with_constraint, with_requirement};
 
 use super::links::Links;
+use super::requirement_links::RequirementLinks;
 use resolver_clause_store::{ConditionalRequirement, StringId, VersionSetId};
 use std::alloc::{AllocError, Global};
 use std::marker::Model;
+
+/// Whether the requirements and constraints of a version are known, and whether it is excluded.
+#[derive(Clone, Copy)]
+enum State {
+    /// They are known. The version is excluded if the field says so.
+    Known(bool),
+    /// They are unknown for this reason. The version is excluded if the first field says so.
+    Unknown(bool, StringId),
+}
+
+/// Returns the reason for which the requirements and constraints are unknown, if there is one.
+fn reason_of(state: State) -> Option<StringId>
+    ensures { result ≡ reason_in state }
+{
+    match state {
+        State::Known(_) => None,
+        State::Unknown(_, reason) => Some(reason),
+    }
+}
+
+/// Returns whether the version is excluded.
+fn is_excluded(state: State) -> bool
+    ensures { result ≡ excluded_in state }
+{
+    match state {
+        State::Known(is_excluded) => is_excluded,
+        State::Unknown(is_excluded, _) => is_excluded,
+    }
+}
+
+/// Returns the state of an excluded version.
+fn excluded(state: State) -> State
+    ensures reason { reason_in result ≡ reason_in state }
+    ensures excluded { excluded_in result ≡ true }
+{
+    match state {
+        State::Known(_) => State::Known(true),
+        State::Unknown(_, reason) => State::Unknown(true, reason),
+    }
+}
 
 /// What was declared of a version.
 #[derive(Clone, Copy)]
@@ -15,19 +56,18 @@ struct Row {
     requirements: u32,
     /// The list of its constraints.
     constraints: u32,
-    unknown: Option<StringId>,
-    is_excluded: bool,
+    state: State,
 }
 
 /// The requirements and constraints of each version, the reason for which they are unknown, if there is one, and
 /// whether the version is excluded.
 ///
-/// Most versions have a few requirements and no constraint. A version takes 20 bytes, a requirement 20 and a constraint
+/// Most versions have a few requirements and no constraint. A version takes 16 bytes, a requirement 12 and a constraint
 /// 8, in whatever order they are declared.
 #[derive(Drop)]
 pub struct Solvables {
     rows: Vec<Row>,
-    requirements: Links<ConditionalRequirement>,
+    requirements: RequirementLinks,
     constraints: Links<VersionSetId>,
 }
 
@@ -49,7 +89,7 @@ impl Solvables {
     {
         Solvables {
             rows: Vec::new(alloc),
-            requirements: Links::new(alloc),
+            requirements: RequirementLinks::new(alloc),
             constraints: Links::new(alloc),
         }
     }
@@ -69,8 +109,7 @@ impl Solvables {
         self.rows.push(Row {
             requirements: 0,
             constraints: 0,
-            unknown: None,
-            is_excluded: false,
+            state: State::Known(false),
         })?;
         Ok(())
     }
@@ -108,7 +147,7 @@ impl Solvables {
         requires { place < length self.now }
         ensures { result ≡ (slice_index_or self.now place no_needs).unknown }
     {
-        self.rows[place].unknown
+        reason_of(self.rows[place].state)
     }
 
     /// Makes the dependencies of a version unknown for a reason.
@@ -116,7 +155,9 @@ impl Solvables {
         requires { place < length self.old }
         ensures { self.new ≡ slice_set self.old place (record (slice_index_or self.old place no_needs) { unknown = Some reason }) }
     {
-        self.rows[place].unknown = Some(reason);
+        let mut row = self.rows[place];
+        row.state = State::Unknown(is_excluded(row.state), reason);
+        self.rows[place] = row;
     }
 
     /// Returns whether a version is excluded.
@@ -124,7 +165,7 @@ impl Solvables {
         requires { place < length self.now }
         ensures { result ≡ (slice_index_or self.now place no_needs).is_excluded }
     {
-        self.rows[place].is_excluded
+        is_excluded(self.rows[place].state)
     }
 
     /// Marks a version as excluded.
@@ -132,7 +173,9 @@ impl Solvables {
         requires { place < length self.old }
         ensures { self.new ≡ slice_set self.old place (record (slice_index_or self.old place no_needs) { is_excluded = true }) }
     {
-        self.rows[place].is_excluded = true;
+        let mut row = self.rows[place];
+        row.state = excluded(row.state);
+        self.rows[place] = row;
     }
 
     /// Returns the requirements of a version.

@@ -12,6 +12,9 @@ use resolver_clause_store::{ConditionalRequirement, Exhausted, Requirement, Vers
 use std::alloc::Global;
 use std::str;
 
+/// For how many words there is still room after `shrink`.
+const FEW: usize = 64;
+
 /// Words of the lines before, and their ids.
 ///
 /// A word keeps its id, so it is not parsed again.
@@ -28,6 +31,16 @@ impl<'a> KnownWords<'a> {
             last: None,
             specs: IndexMap::new(alloc),
         }
+    }
+
+    /// Forgets the words, and gives back their memory, except that of a few small blocks.
+    ///
+    /// If large blocks were freed in its place, the C library's allocator would take blocks of that size from its heap from then on,
+    /// where a list that grows is copied and leaves a hole.
+    pub fn shrink(&mut self) {
+        self.last = None;
+        self.specs.clear();
+        self.specs.shrink_to(FEW);
     }
 }
 

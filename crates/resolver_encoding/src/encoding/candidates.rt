@@ -145,10 +145,13 @@ impl<N: Copy + Eq + Hash + Drop, S: Copy + Eq + Hash + Drop> Encoding<N, S> {
     }
 
     /// Registers a new candidate: it gets a variable, a number under its name, and the clauses of its code.
+    ///
+    /// If its variable has the number that is guessed, that is found at once.
     fn register_new<D: DependencyProvider<NameId = N, SolvableId = S>>(
         &mut self,
         provider: &D,
         solvable: S,
+        variable: usize,
     ) -> Result<(), Exhausted>
         requires bounded { IsBounded self.old }
         requires absent { Contains (notes_in self.old).seen solvable → ⊥ }
@@ -163,7 +166,9 @@ impl<N: Copy + Eq + Hash + Drop, S: Copy + Eq + Hash + Drop> Encoding<N, S> {
         ensures refusal { IfErr result (IsShortage (IsFull (notes_in self.new))) }
     {
         let name = provider.solvable_name(solvable);
-        self.table.variables.intern(Origin::Solvable(solvable))?;
+        self.table
+            .variables
+            .intern_near(Origin::Solvable(solvable), variable)?;
         let number = self.groups.named(name).len();
         self.begin_digit(provider, name, number, solvable)?;
         self.add_code(provider, name, number, solvable)?;
@@ -174,13 +179,15 @@ impl<N: Copy + Eq + Hash + Drop, S: Copy + Eq + Hash + Drop> Encoding<N, S> {
 
     /// Registers a candidate, if it is new. Returns the place after its own among the registered ones.
     ///
-    /// If it is registered at the place that is guessed, that takes little time.
+    /// It takes little time if the candidate is registered at the place that is guessed, or is new and has the variable that
+    /// is guessed.
     #[inline(always)]
     pub(super) fn see<D: DependencyProvider<NameId = N, SolvableId = S>>(
         &mut self,
         provider: &D,
         solvable: S,
         guess: usize,
+        variable: usize,
     ) -> Result<usize, Exhausted>
         requires bounded { IsBounded self.old }
         ensures room { KeepsRoom self.old self.new }
@@ -196,7 +203,7 @@ impl<N: Copy + Eq + Hash + Drop, S: Copy + Eq + Hash + Drop> Encoding<N, S> {
         match place_near(&self.seen, &solvable, guess) {
             Some(place) => Ok(place.wrapping_add(1)),
             None => {
-                self.register_new(provider, solvable)?;
+                self.register_new(provider, solvable, variable)?;
                 Ok(self.seen.len())
             }
         }
@@ -216,10 +223,13 @@ impl<N: Copy + Eq + Hash + Drop, S: Copy + Eq + Hash + Drop> Encoding<N, S> {
             (IsSeeingEach candidates.now) NoneOwn (notes_in self.old) (notes_in self.new) }
         ensures refusal { IfErr result (IsShortage (IsFull (notes_in self.new))) }
     {
+        let first = self.table.variables.len();
         make_variables(&mut self.table.variables, candidates)?;
+        let known = self.seen.len();
         let mut next = usize::MAX;
         for candidate in candidates {
-            next = self.see(provider, *candidate, next)?;
+            let variable = first.wrapping_add(self.seen.len().wrapping_sub(known));
+            next = self.see(provider, *candidate, next, variable)?;
         }
         Ok(())
     }

@@ -47,7 +47,7 @@ impl<N: Copy + Eq + Hash + Drop, S: Copy + Eq + Hash + Drop> Encoding<N, S> {
         ensures refusal { IfErr result (IsShortage (IsFull (notes_in self.new))) }
     {
         let variable = self.table.variables.intern(Origin::Solvable(solvable))?;
-        self.see(provider, solvable, usize::MAX)?;
+        self.see(provider, solvable, usize::MAX, usize::MAX)?;
         Ok(variable)
     }
 

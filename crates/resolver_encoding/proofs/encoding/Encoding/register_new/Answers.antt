@@ -26,20 +26,20 @@ use Rattle.resolver_encoding.proofs.encoding.Encoding.register_new.Goals as goal
 pub begin_digit-requires-clause-below : goal.begin_digit-requires-clause-below
 begin_digit-requires-clause-below g c = λ sound k t at. slice_get_within c.named-number.result.now k t (c.named-number.ensures.every_at sound k t at)
 
-pub returns-in_err-intern : goal.returns-in_err-intern
-returns-in_err-intern g c =
+pub returns-in_err-intern_near : goal.returns-in_err-intern_near
+returns-in_err-intern_near g c =
     record {
       brings = λ root before. Brings-of (g.D.Interner.universe c.args.provider.now) (IsSeeing c.args.solvable) NoneOwn (λ o. o ≡ Solvable c.args.solvable)
           (notes_in c.args.self.now) _ (λ o is. inr (brought_candidate c.args.solvable refl is))
-          (AddsOnly-such _ _ _ (AddsSuch-push _ _ _ c.intern.ensures.added) refl);
-      room = record { bounded = c.intern.ensures.bounded; variables = c.intern.ensures.limit; clauses = refl };
+          (AddsOnly-such _ _ _ (AddsSuch-push _ _ _ c.intern_near.ensures.added) refl);
+      room = record { bounded = c.intern_near.ensures.bounded; variables = c.intern_near.ensures.limit; clauses = refl };
       step = IfOk-from_err c.from_residual.result _ c.from_residual.ensures.0;
       seen = IfOk-from_err c.from_residual.result _ c.from_residual.ensures.0;
       asked = IfOk-from_err c.from_residual.result _ c.from_residual.ensures.0;
       only = IfOk-from_err c.from_residual.result _ c.from_residual.ensures.0;
       requirements = IfOk-from_err c.from_residual.result _ c.from_residual.ensures.0;
       refusal = IfErr-of c.from_residual.result _ _ c.from_residual.ensures.1
-          (shortage_at_limit _ _ (λ ids. let full = c.in_err-intern.ensures.ids ids in inl (full.count, full.distinct)));
+          (shortage_at_limit _ _ (λ ids. let full = c.in_err-intern_near.ensures.ids ids in inl (full.count, full.distinct)));
     }
 
 pub returns-in_err-begin_digit : goal.returns-in_err-begin_digit
@@ -49,8 +49,8 @@ returns-in_err-begin_digit g c =
           (notes_in c.args.self.now) before c.solvable_name-name.result c.named-number.result.now c.named-number.ensures.each_at
           (length c.named-number.result.now) c.args.solvable _ c.named-number.ensures.each refl
           (AddsOnly-then-such _ _ _ _ (AddsSuch-weaker _ _ (λ o is. own_code _ _ _ _ o (inl is)) _ _
-          (AddsSuch-push _ _ _ c.intern.ensures.added)) c.begin_digit.ensures.adds.origins c.begin_digit.ensures.adds.deferred));
-      room = (let it = c.begin_digit.ensures.room in record { bounded = it.bounded; variables = it.variables ∙ c.intern.ensures.limit; clauses = it.clauses });
+          (AddsSuch-push _ _ _ c.intern_near.ensures.added)) c.begin_digit.ensures.adds.origins c.begin_digit.ensures.adds.deferred));
+      room = (let it = c.begin_digit.ensures.room in record { bounded = it.bounded; variables = it.variables ∙ c.intern_near.ensures.limit; clauses = it.clauses });
       step = IfOk-from_err c.from_residual-in_err-begin_digit.result _ c.from_residual-in_err-begin_digit.ensures.0;
       seen = IfOk-from_err c.from_residual-in_err-begin_digit.result _ c.from_residual-in_err-begin_digit.ensures.0;
       asked = IfOk-from_err c.from_residual-in_err-begin_digit.result _ c.from_residual-in_err-begin_digit.ensures.0;
@@ -67,10 +67,10 @@ returns-in_err-add_code g c =
           (length c.named-number.result.now) c.args.solvable _ c.named-number.ensures.each refl
           (AddsOnly-trans _ _ _ _ (AddsOnly-then-such _ _ _ _
           (AddsSuch-weaker _ _ (λ o is. own_code _ _ _ _ o (inl is)) _ _
-          (AddsSuch-push _ _ _ c.intern.ensures.added)) c.begin_digit.ensures.adds.origins c.begin_digit.ensures.adds.deferred)
+          (AddsSuch-push _ _ _ c.intern_near.ensures.added)) c.begin_digit.ensures.adds.origins c.begin_digit.ensures.adds.deferred)
           (AddsOnly-weaker _ _ (own_code _ _ _ _) _ _ c.add_code.ensures.adds)));
       room = (let one = c.begin_digit.ensures.room in let two = c.add_code.ensures.room in
-          record { bounded = two.bounded; variables = two.variables ∙ one.variables ∙ c.intern.ensures.limit; clauses = two.clauses ∙ one.clauses });
+          record { bounded = two.bounded; variables = two.variables ∙ one.variables ∙ c.intern_near.ensures.limit; clauses = two.clauses ∙ one.clauses });
       step = IfOk-from_err c.from_residual-in_err-add_code.result _ c.from_residual-in_err-add_code.ensures.0;
       seen = IfOk-from_err c.from_residual-in_err-add_code.result _ c.from_residual-in_err-add_code.ensures.0;
       asked = IfOk-from_err c.from_residual-in_err-add_code.result _ c.from_residual-in_err-add_code.ensures.0;
@@ -87,10 +87,10 @@ returns-in_err-add g c =
           (length c.named-number.result.now) c.args.solvable _ c.named-number.ensures.each refl
           (AddsOnly-same_as _ _ _ _ (AddsOnly-trans _ _ _ _
           (AddsOnly-then-such _ _ _ _ (AddsSuch-weaker _ _ (λ o is. own_code _ _ _ _ o (inl is)) _ _
-          (AddsSuch-push _ _ _ c.intern.ensures.added)) c.begin_digit.ensures.adds.origins c.begin_digit.ensures.adds.deferred)
+          (AddsSuch-push _ _ _ c.intern_near.ensures.added)) c.begin_digit.ensures.adds.origins c.begin_digit.ensures.adds.deferred)
           (AddsOnly-weaker _ _ (own_code _ _ _ _) _ _ c.add_code.ensures.adds)) refl refl));
       room = (let one = c.begin_digit.ensures.room in let two = c.add_code.ensures.room in
-          record { bounded = two.bounded; variables = two.variables ∙ one.variables ∙ c.intern.ensures.limit; clauses = two.clauses ∙ one.clauses });
+          record { bounded = two.bounded; variables = two.variables ∙ one.variables ∙ c.intern_near.ensures.limit; clauses = two.clauses ∙ one.clauses });
       step = IfOk-from_err c.from_residual-in_err-add.result _ c.from_residual-in_err-add.ensures.0;
       seen = IfOk-from_err c.from_residual-in_err-add.result _ c.from_residual-in_err-add.ensures.0;
       asked = IfOk-from_err c.from_residual-in_err-add.result _ c.from_residual-in_err-add.ensures.0;
@@ -107,10 +107,10 @@ returns-in_err-append g c =
           (length c.named-number.result.now) c.args.solvable _ c.named-number.ensures.each refl
           (AddsOnly-same_as _ _ _ _ (AddsOnly-trans _ _ _ _
           (AddsOnly-then-such _ _ _ _ (AddsSuch-weaker _ _ (λ o is. own_code _ _ _ _ o (inl is)) _ _
-          (AddsSuch-push _ _ _ c.intern.ensures.added)) c.begin_digit.ensures.adds.origins c.begin_digit.ensures.adds.deferred)
+          (AddsSuch-push _ _ _ c.intern_near.ensures.added)) c.begin_digit.ensures.adds.origins c.begin_digit.ensures.adds.deferred)
           (AddsOnly-weaker _ _ (own_code _ _ _ _) _ _ c.add_code.ensures.adds)) refl refl));
       room = (let one = c.begin_digit.ensures.room in let two = c.add_code.ensures.room in
-          record { bounded = two.bounded; variables = two.variables ∙ one.variables ∙ c.intern.ensures.limit; clauses = two.clauses ∙ one.clauses });
+          record { bounded = two.bounded; variables = two.variables ∙ one.variables ∙ c.intern_near.ensures.limit; clauses = two.clauses ∙ one.clauses });
       step = IfOk-from_err c.from_residual-in_err-append.result _ c.from_residual-in_err-append.ensures.0;
       seen = IfOk-from_err c.from_residual-in_err-append.result _ c.from_residual-in_err-append.ensures.0;
       asked = IfOk-from_err c.from_residual-in_err-append.result _ c.from_residual-in_err-append.ensures.0;
@@ -132,19 +132,19 @@ returns g c =
           let mid = notes_in c.add_code.new.self in
           let begun = c.in_ok-begin_digit.ensures in
           let code = c.in_ok-add_code.ensures in
-          let grows : Grows old.origins (origins_in c.intern.new.self) = record { keeps = c.intern.ensures.kept; distinct = c.intern.ensures.distinct } in
+          let grows : Grows old.origins (origins_in c.intern_near.new.self) = record { keeps = c.intern_near.ensures.kept; distinct = c.intern_near.ensures.distinct } in
           let Sound : Groups g.row.N.Denot g.row.S.Denot → Type 0 = λ gs. AreGroups gs in
           let same_groups = code.groups ∙ begun.groups in
           let step = IsStep-trans u (coding_for n k s) (λ root. ⊤) _ _ _ begun.step code.step in
           IsAskStep-trans u (IsSeeing s) (λ root. ⊤) _ _ _
           (IsAskStep-of u (IsSeeing s) (λ root. ⊤) _ _
-          (IsStep-origins u idle (λ root. ⊤) old _ (origins_in c.intern.new.self) (limit_in c.intern.new.self) grows c.intern.ensures.limit refl))
+          (IsStep-origins u idle (λ root. ⊤) old _ (origins_in c.intern_near.new.self) (limit_in c.intern_near.new.self) grows c.intern_near.ensures.limit refl))
           (IsStep-seen u g.N.PartialEq.eq g.S.PartialEq.eq g.met.D.Interner.names_are_values g.met.D.Interner.solvables_are_values n k s _ mid _
           c.add.new.self list
           (sym c.solvable_name-name.ensures) c.requires.absent
           step same_groups (code.seen ∙ begun.seen) (λ i. record mid { seen = c.in_ok-append.ensures.keys i; groups = c.add.new.self })
           c.in_ok-add.ensures.added
-          (place_in mid.origins _ (Solvable s) (step.origins.kept _ (Solvable s) c.in_ok-intern.ensures.here))
+          (place_in mid.origins _ (Solvable s) (step.origins.kept _ (Solvable s) c.in_ok-intern_near.ensures.here))
           c.named-number.ensures.each_at c.named-number.ensures.every_at refl code.code
           (λ i begins sound j t at. code.step.kinds _ (begun.begun i begins sound j t at)));
       asked = c.in_ok-add_code.ensures.step.asked ∙ c.in_ok-begin_digit.ensures.step.asked;
@@ -164,10 +164,10 @@ returns g c =
           (length c.named-number.result.now) c.args.solvable _ c.named-number.ensures.each refl
           (AddsOnly-same_as _ _ _ _ (AddsOnly-trans _ _ _ _
           (AddsOnly-then-such _ _ _ _ (AddsSuch-weaker _ _ (λ o is. own_code _ _ _ _ o (inl is)) _ _
-          (AddsSuch-push _ _ _ c.intern.ensures.added)) c.begin_digit.ensures.adds.origins c.begin_digit.ensures.adds.deferred)
+          (AddsSuch-push _ _ _ c.intern_near.ensures.added)) c.begin_digit.ensures.adds.origins c.begin_digit.ensures.adds.deferred)
           (AddsOnly-weaker _ _ (own_code _ _ _ _) _ _ c.add_code.ensures.adds)) refl refl));
       room = (let one = c.begin_digit.ensures.room in let two = c.add_code.ensures.room in
-          record { bounded = two.bounded; variables = two.variables ∙ one.variables ∙ c.intern.ensures.limit; clauses = two.clauses ∙ one.clauses });
+          record { bounded = two.bounded; variables = two.variables ∙ one.variables ∙ c.intern_near.ensures.limit; clauses = two.clauses ∙ one.clauses });
       requirements = c.in_ok-add_code.ensures.requirements ∙ c.in_ok-begin_digit.ensures.requirements;
       refusal = tt;
     }
