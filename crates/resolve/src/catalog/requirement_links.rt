@@ -24,6 +24,7 @@ enum StoredRequirement {
 }
 
 /// Returns a requirement without a condition as it is stored.
+#[inline(always)]
 fn stored_plainly(requirement: Requirement) -> StoredRequirement
     ensures { (conditional : List Required) → Stores conditional conditional result (plain requirement) }
 {
@@ -34,6 +35,7 @@ fn stored_plainly(requirement: Requirement) -> StoredRequirement
 }
 
 /// Returns a requirement as it is stored. One that depends on a condition is added to the list of those.
+#[inline(always)]
 fn stored_of(
     conditional: &mut Vec<ConditionalRequirement>,
     requirement: ConditionalRequirement,
@@ -104,6 +106,7 @@ impl RequirementLinks {
     }
 
     /// Adds a requirement to a list, and returns the longer list. An error changes nothing.
+    #[inline(always)]
     pub fn push(
         &mut self,
         list: u32,

@@ -115,6 +115,7 @@ impl Solvables {
     }
 
     /// Adds a requirement to a version. An error changes nothing.
+    #[inline(always)]
     pub fn require(
         &mut self,
         place: usize,

@@ -114,6 +114,7 @@ impl PackageTable {
     }
 
     /// Adds a requirement to a solvable.
+    #[inline(always)]
     pub fn add_requirement(
         &mut self,
         solvable: SolvableId,
