@@ -1,5 +1,5 @@
 -- How requirements are stored.
-use Rattle.std.proofs.Common.{◌≡◌, ℕ, zero, suc, ◌<◌, ◌≤◌, List, [], ◌∷◌, ◌++◌, length, map, arith, refl, ap, sym, subst, ◌∙◌, length-append}
+use Rattle.std.proofs.Common.{◌≡◌, ℕ, zero, suc, ◌≤◌, List, [], ◌∷◌, ◌++◌, length, map, arith, refl, ap, sym, subst, ◌∙◌, length-append}
 use Rattle.std.specs.List.{All}
 use Rattle.std.specs.Prelude.{None, Result, Ok, Err, OnErr}
 use Rattle.std.proofs.lemmas.List.{get_or_append_left, length-map, map-append}
@@ -58,9 +58,6 @@ module _ (old new : List ConditionalRequirement) (lists : List (List StoredRequi
       subst Inside (sym stores.grown) (λ k d below n e less. kept_inside old stores.more _ (inside k d below n e less))
 
   module _ (place : ℕ) where
-    made : List StoredRequirement
-    made = up_to lists place ++ one ∷ []
-
     -- one more requirement is stored
     pub lists_pushed : map (map (requirement_in new)) (lists ++ (up_to lists place ++ one ∷ []) ∷ []) ≡
         map (map (requirement_in old)) lists ++ (up_to (map (map (requirement_in old)) lists) place ++ requirement ∷ []) ∷ []
