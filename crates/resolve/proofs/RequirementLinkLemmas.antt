@@ -1,12 +1,12 @@
 -- How requirements are stored.
 use Rattle.std.proofs.Common.{◌≡◌, ℕ, zero, suc, ◌≤◌, List, [], ◌∷◌, ◌++◌, length, map, arith, refl, ap, sym, subst, ◌∙◌, length-append}
 use Rattle.std.specs.List.{All}
-use Rattle.std.specs.Prelude.{None, Result, Ok, Err, OnErr}
+use Rattle.std.specs.Prelude.{None}
 use Rattle.std.proofs.lemmas.List.{get_or_append_left, length-map, map-append}
 use Rattle.std.proofs.lemmas.List.Elements.{All-push}
 use Rattle.resolver_clause_store.specs.declared.data.ConditionalRequirement.{ConditionalRequirement}
-use Rattle.resolve.specs.declared.catalog.requirement_links.StoredRequirement.{StoredRequirement}
-use Rattle.resolve.specs.declared.catalog.requirement_links.StoredRequirement.TheVariants.{Conditional}
+use Rattle.resolve.specs.declared.catalog.requirement_links.LinkedRequirement.{LinkedRequirement}
+use Rattle.resolve.specs.declared.catalog.requirement_links.LinkedRequirement.TheVariants.{Conditional}
 use Rattle.resolve.specs.Links.{up_to}
 use Rattle.resolve.specs.RequirementLinks.{IsStored, Stores, plain, requirement_in}
 
@@ -23,22 +23,22 @@ All-up_to P lists (suc n) all within = all n [] (omega (arith, within))
 
 module _ (old more : List ConditionalRequirement) where
   -- what was stored says the same once there are more conditional requirements
-  kept_one : (one : StoredRequirement) → IsStored (length old) one → requirement_in (old ++ more) one ≡ requirement_in old one
+  kept_one : (one : LinkedRequirement) → IsStored (length old) one → requirement_in (old ++ more) one ≡ requirement_in old one
   kept_one (Conditional place) inside = get_or_append_left old more _ place inside
   kept_one one inside = refl
 
-  kept_inside : (one : StoredRequirement) → IsStored (length old) one → IsStored (length (old ++ more)) one
+  kept_inside : (one : LinkedRequirement) → IsStored (length old) one → IsStored (length (old ++ more)) one
   kept_inside (Conditional place) inside = let long = length-append old more in omega (arith, inside, long)
   kept_inside one inside = inside
 
-  kept_list : (list : List StoredRequirement) → All (IsStored (length old)) list → map (requirement_in (old ++ more)) list ≡ map (requirement_in old) list
+  kept_list : (list : List LinkedRequirement) → All (IsStored (length old)) list → map (requirement_in (old ++ more)) list ≡ map (requirement_in old) list
   kept_list [] inside = refl
   kept_list (one ∷ list) inside =
       let first = kept_one one (inside 0 one (omega arith)) in
       let rest = kept_list list (λ k d below. inside (suc k) d (omega (arith, below))) in
       λ i. first i ∷ rest i
 
-  kept_lists : (lists : List (List StoredRequirement)) → All (All (IsStored (length old))) lists →
+  kept_lists : (lists : List (List LinkedRequirement)) → All (All (IsStored (length old))) lists →
       map (map (requirement_in (old ++ more))) lists ≡ map (map (requirement_in old)) lists
   kept_lists [] inside = refl
   kept_lists (list ∷ lists) inside =
@@ -46,7 +46,7 @@ module _ (old more : List ConditionalRequirement) where
       let rest = kept_lists lists (λ k d below. inside (suc k) d (omega (arith, below))) in
       λ i. first i ∷ rest i
 
-module _ (old new : List ConditionalRequirement) (lists : List (List StoredRequirement)) (one : StoredRequirement) (requirement : ConditionalRequirement)
+module _ (old new : List ConditionalRequirement) (lists : List (List LinkedRequirement)) (one : LinkedRequirement) (requirement : ConditionalRequirement)
     (inside : All (All (IsStored (length old))) lists) (stores : Stores old new one requirement) where
   -- what was stored before says the same as before
   pub lists_kept : map (map (requirement_in new)) lists ≡ map (map (requirement_in old)) lists
@@ -74,23 +74,12 @@ module _ (old new : List ConditionalRequirement) (lists : List (List StoredRequi
         (All-push (IsStored (length new)) (up_to lists place) one (All-up_to (IsStored (length new)) lists place inside_kept within) stores.inside)
 
 -- a table of lists is as long as what is stored
-pub same_length : (conditional : List ConditionalRequirement) (lists : List (List StoredRequirement)) (value : List (List ConditionalRequirement)) →
+pub same_length : (conditional : List ConditionalRequirement) (lists : List (List LinkedRequirement)) (value : List (List ConditionalRequirement)) →
     map (map (requirement_in conditional)) lists ≡ value → length lists ≡ length value
 same_length conditional lists value view = sym (length-map lists (map (requirement_in conditional))) ∙ ap length view
 
--- the list that was read
-pub list_read : (conditional : List ConditionalRequirement) (lists : List (List StoredRequirement)) (value : List (List ConditionalRequirement)) (n : ℕ) →
-    map (map (requirement_in conditional)) lists ≡ value → map (requirement_in conditional) (up_to lists n) ≡ up_to value n
-list_read conditional lists value n view =
-    sym (up_to-map (requirement_in conditional) lists n) ∙ ap (λ (all : List (List ConditionalRequirement)). up_to all n) view
-
--- a property that always holds, for a call that is refused
-pub refused-any : {A B : Type 0} (r : Result A B) (P : Type 0) → P → OnErr r P
-refused-any (Ok x) P holds = tt
-refused-any (Err e) P holds = holds
-
 -- without a condition
-pub stores_plainly : (old : List ConditionalRequirement) (one : StoredRequirement) (requirement : ConditionalRequirement) →
+pub stores_plainly : (old : List ConditionalRequirement) (one : LinkedRequirement) (requirement : ConditionalRequirement) →
     requirement.condition ≡ None → Stores old old one (plain requirement.requirement) → Stores old old one requirement
 stores_plainly old one requirement is stores = let P : ConditionalRequirement → Type 0 = λ r. Stores old old one r in
     let same : plain requirement.requirement ≡ requirement = λ i. record { condition = sym is i; requirement = requirement.requirement } in

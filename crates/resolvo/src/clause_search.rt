@@ -408,8 +408,8 @@ impl ClauseSearch {
     ///
     /// The requirement clauses are among the given ones. `union_ends` has the places where the candidates of each version
     /// set end, for the unions among them, by the numbers of the clauses. `owners` is not such a list: it has the owners of
-    /// the variables that are new, if they are known. The owner of a variable is its package's number, if the variable
-    /// stands for a solvable.
+    /// the variables that are new since the last call, or is empty in each call. The owner of a variable is its package's
+    /// number, if the variable stands for a solvable.
     pub fn load(
         &mut self,
         alloc: Global,

@@ -16,7 +16,7 @@ use std::marker::Model;
 ///
 /// Few requirements depend on a condition. They are in a list of their own, so the others have no room for a condition.
 #[derive(Clone, Copy)]
-enum StoredRequirement {
+enum LinkedRequirement {
     Single(VersionSetId),
     Union(VersionSetUnionId),
     /// The conditional requirement at this place of their list.
@@ -25,12 +25,12 @@ enum StoredRequirement {
 
 /// Returns a requirement without a condition as it is stored.
 #[inline(always)]
-fn stored_plainly(requirement: Requirement) -> StoredRequirement
+fn stored_plainly(requirement: Requirement) -> LinkedRequirement
     ensures { (conditional : List Required) → Stores conditional conditional result (plain requirement) }
 {
     match requirement {
-        Requirement::Single(version_set) => StoredRequirement::Single(version_set),
-        Requirement::Union(union) => StoredRequirement::Union(union),
+        Requirement::Single(version_set) => LinkedRequirement::Single(version_set),
+        Requirement::Union(union) => LinkedRequirement::Union(union),
     }
 }
 
@@ -39,7 +39,7 @@ fn stored_plainly(requirement: Requirement) -> StoredRequirement
 fn stored_of(
     conditional: &mut Vec<ConditionalRequirement>,
     requirement: ConditionalRequirement,
-) -> Result<StoredRequirement, AllocError>
+) -> Result<LinkedRequirement, AllocError>
     ensures stores { IfOk result (λ stored. Stores conditional.old.items conditional.new.items stored requirement) }
     ensures unchanged { OnErr result (conditional.new.items ≡ conditional.old.items) }
 {
@@ -48,19 +48,19 @@ fn stored_of(
         Some(_) => {
             let place = narrow(conditional.len())?;
             conditional.push(requirement)?;
-            Ok(StoredRequirement::Conditional(place))
+            Ok(LinkedRequirement::Conditional(place))
         }
     }
 }
 
 /// Returns the requirement that is stored like this.
-fn read(conditional: &[ConditionalRequirement], stored: StoredRequirement) -> ConditionalRequirement
+fn read(conditional: &[ConditionalRequirement], stored: LinkedRequirement) -> ConditionalRequirement
     ensures { result ≡ requirement_in conditional.now stored }
 {
     let requirement = match stored {
-        StoredRequirement::Single(version_set) => Requirement::Single(version_set),
-        StoredRequirement::Union(union) => Requirement::Union(union),
-        StoredRequirement::Conditional(place) => match conditional.get(place as usize) {
+        LinkedRequirement::Single(version_set) => Requirement::Single(version_set),
+        LinkedRequirement::Union(union) => Requirement::Union(union),
+        LinkedRequirement::Conditional(place) => match conditional.get(place as usize) {
             Some(found) => return *found,
             None => Requirement::Single(VersionSetId(0)),
         },
@@ -77,7 +77,7 @@ fn read(conditional: &[ConditionalRequirement], stored: StoredRequirement) -> Co
 /// depends on a condition 28.
 #[derive(Drop)]
 pub struct RequirementLinks {
-    stored: Links<StoredRequirement>,
+    stored: Links<LinkedRequirement>,
     /// The requirements that depend on a condition.
     conditional: Vec<ConditionalRequirement>,
 }
