@@ -1,5 +1,6 @@
 pub mod ListLemmas
 pub mod BoolLemmas
+pub mod ResultLemmas
 pub mod DemandLemmas
 pub mod Filtering
 pub mod SetLemmas
@@ -18,6 +19,7 @@ pub mod UnionLemmas
 pub mod AvailabilityLemmas
 pub mod SlotLemmas
 pub mod StoredSlotLemmas
+pub mod StoredPairLemmas
 pub mod MemberLemmas
 pub mod TrailLemmas
 pub mod ClauseLists

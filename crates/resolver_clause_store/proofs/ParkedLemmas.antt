@@ -1,6 +1,6 @@
 -- Lists of numbers whose items lie in one pool of nodes.
 use Rattle.std.proofs.Common.{◌≡◌, ◌≢◌, ℕ, zero, suc, pred, ◌+◌, ◌-◌, ◌<◌, ◌≤◌, ◌⊎◌, ◌==◌, List, [], ◌∷◌, ◌++◌, length, get_or, map, slice_set}
-use Rattle.std.proofs.Common.{Some, Result, Ok, Err, OnErr, arith, inl, inr, refl, sym, ap, ◌∙◌, subst, ⊎_elim, length-append}
+use Rattle.std.proofs.Common.{Some, arith, inl, inr, refl, sym, ap, ◌∙◌, subst, ⊎_elim, length-append}
 use Rattle.std.specs.Prelude.{if◌then◌else◌, slice_get}
 use Rattle.std.proofs.Math.ListN.{get_or-append, get_or-map}
 use Rattle.std.proofs.lemmas.Bool.{cases_eq, cases_lt, eq-eqb, ne_eqb}
@@ -9,7 +9,8 @@ use Rattle.std.proofs.lemmas.Option.{get_or_from_slice_get}
 use Rattle.resolver_clause_store.specs.declared.parked.Link.{Link}
 use Rattle.resolver_clause_store.specs.declared.parked.Node.{Node}
 use Rattle.resolver_clause_store.specs.declared.parked.Chain.{Chain}
-use Rattle.resolver_clause_store.specs.Parked.{AreApart, HaveSameItems, IsLoose, chain_at, empty, items_from, items_in, list_of, node_at, place_after, place_in}
+use Rattle.resolver_clause_store.specs.ListPools.{list_of}
+use Rattle.resolver_clause_store.specs.Parked.{AreApart, HaveSameItems, IsLoose, chain_at, empty, items_from, items_in, node_at, place_after, place_in}
 
 -- pools that agree on the nodes of a list
 place-same : (old new : List Node) (place count : ℕ) →
@@ -410,11 +411,6 @@ module _ (nodes : List Node) (free : Chain) (lists : List Chain) (number : ℕ) 
   pub taken-others : (other : ℕ) → other ≢ number → list_of (map (items_in taken-nodes) taken-lists) other ≡ list_of (map (items_in nodes) lists) other
   taken-others other differs = seen taken-nodes taken-lists other ∙ taken-rest other ∙
       ap (λ (c : Chain). items_in nodes c) (get_or-set_other lists number other taken-chain empty differs) ∙ sym (seen nodes lists other)
-
--- what holds in any case holds after an error
-pub unchanged-any : {E : Type 0} (result : Result (Unit {0}) E) (P : Type 0) → P → OnErr result P
-unchanged-any (Ok done) P holds = tt
-unchanged-any (Err error) P holds = holds
 
 -- the lists are seen as before, after more empty ones and in a pool in which each has the same items
 pub same-seen : (old new : List Node) (before after : List Chain) (value : List (List ℕ)) → map (items_in old) before ≡ value →

@@ -23,7 +23,7 @@ use Rattle.resolver_clause_store.proofs.KeptLemmas.{slot_at}
 use Rattle.resolver_clause_store.proofs.ListLemmas.{Contains-here, Contains-there}
 use Rattle.resolver_clause_store.proofs.TrailLemmas.{value-true}
 use Rattle.resolver_clause_store.specs.declared.parked.ParkedLists.{ParkedLists}
-use Rattle.resolver_clause_store.specs.Parked.{list_of}
+use Rattle.resolver_clause_store.specs.ListPools.{list_of}
 use Rattle.resolver_clause_store.specs.declared.queue.DecideQueue.{DecideQueue}
 use Rattle.resolver_clause_store.specs.Queues.{IsFollowed, IsHeld, IsMetBy, IsQueued, IsInactive}
 use Rattle.resolver_clause_store.specs.Requirers.{AreRequirers, requirer_of}

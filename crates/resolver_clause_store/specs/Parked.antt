@@ -3,10 +3,6 @@ use Rattle.std.specs.Prelude.{◌≡◌, ◌≢◌, ℕ, zero, suc, ◌<◌, Lis
 use Rattle.resolver_clause_store.specs.declared.parked.Node.{Node}
 use Rattle.resolver_clause_store.specs.declared.parked.Chain.{Chain}
 
--- the list with this number, empty if there is none
-abbrev pub list_of : List (List ℕ) → ℕ → List ℕ
-list_of lists number = slice_index_or lists number []
-
 -- a list without nodes
 abbrev pub empty : Chain
 empty = record { first = record { place = 0 }; count = 0 }

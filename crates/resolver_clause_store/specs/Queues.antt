@@ -7,7 +7,7 @@ use Rattle.resolver_clause_store.specs.declared.trail.Trail.{Trail}
 use Rattle.resolver_clause_store.specs.Formula.{clause_at}
 use Rattle.resolver_clause_store.specs.TrailView.{length_of, literal_value, slot_of, variable_at}
 use Rattle.resolver_clause_store.specs.declared.parked.ParkedLists.{ParkedLists}
-use Rattle.resolver_clause_store.specs.Parked.{list_of}
+use Rattle.resolver_clause_store.specs.ListPools.{list_of}
 use Rattle.resolver_clause_store.specs.Requirers.{AreRequirers}
 use Rattle.resolver_clause_store.specs.declared.queue.DecideQueue.{DecideQueue}
 

@@ -2,7 +2,7 @@
 
 ghost use Rattle.std.specs.Prelude.{◌<◌, ◌≡◌, ◌++◌, ◌∷◌, [], OnErr, OnOk, length, slice_set};
 ghost use Rattle.resolver_clause_store.specs.Watches.{pair_at};
-ghost use Rattle.resolver_clause_store.specs.WatchedPairs.{literal_if, pair_in};
+ghost use Rattle.resolver_clause_store.specs.WatchedPairs.{literal_from, pair_with};
 
 use crate::literals::{Literal, Variable};
 use std::alloc::{AllocError, Global};
@@ -15,78 +15,111 @@ pub struct WatchedPair {
     pub second: Option<Literal>,
 }
 
-/// A pair as it is stored, in twelve bytes.
+/// The variables of a pair. Where no literal is watched, the variable means nothing.
 #[derive(Clone, Copy)]
-pub struct StoredPair {
+pub struct PairVariables {
     first: Variable,
     second: Variable,
-    has_first: bool,
-    has_second: bool,
-    is_first_positive: bool,
-    is_second_positive: bool,
 }
 
-/// Returns whether there is a literal, its variable, and its sign. Without a literal the others mean nothing.
-fn parts_of(literal: Option<Literal>) -> (bool, Variable, bool)
-    ensures { literal_if result.0 result.1 result.2 ≡ literal }
+/// The sign of a literal that is watched, in one byte.
+#[derive(Clone, Copy)]
+pub enum WatchedSign {
+    Negative,
+    Positive,
+    /// No literal is watched.
+    Unwatched,
+}
+
+/// The signs of a pair.
+#[derive(Clone, Copy)]
+pub struct PairSigns {
+    first: WatchedSign,
+    second: WatchedSign,
+}
+
+/// Returns the variable and the sign of a literal, if there is one.
+fn parts_of(literal: Option<Literal>) -> (Variable, WatchedSign)
+    ensures { literal_from result.0 result.1 ≡ literal }
 {
     match literal {
-        Some(Literal { variable, positive }) => (true, variable, positive),
-        None => (false, Variable::new(0), false),
+        Some(
+            Literal {
+                variable,
+                positive: true,
+            },
+        ) => (variable, WatchedSign::Positive),
+        Some(
+            Literal {
+                variable,
+                positive: false,
+            },
+        ) => (variable, WatchedSign::Negative),
+        None => (Variable::new(0), WatchedSign::Unwatched),
     }
 }
 
-/// Returns the literal with a variable and a sign, if there is one.
-fn literal_if(exists: bool, variable: Variable, positive: bool) -> Option<Literal>
-    ensures { result ≡ literal_if exists variable positive }
+/// Returns the literal with a variable and a sign, if it is watched.
+fn literal_from(variable: Variable, sign: WatchedSign) -> Option<Literal>
+    ensures { result ≡ literal_from variable sign }
 {
-    if exists {
-        Some(Literal { variable, positive })
-    } else {
-        None
+    match sign {
+        WatchedSign::Negative => Some(Literal {
+            variable,
+            positive: false,
+        }),
+        WatchedSign::Positive => Some(Literal {
+            variable,
+            positive: true,
+        }),
+        WatchedSign::Unwatched => None,
     }
 }
 
-/// Returns a pair as it is stored.
-fn stored_of(pair: WatchedPair) -> StoredPair
-    ensures { pair_in result ≡ pair }
+/// Returns the parts of a pair.
+fn stored_of(pair: WatchedPair) -> (PairVariables, PairSigns)
+    ensures { pair_with result.0 result.1 ≡ pair }
 {
-    let (has_first, first, is_first_positive) = parts_of(pair.first);
-    let (has_second, second, is_second_positive) = parts_of(pair.second);
-    StoredPair {
-        first,
-        second,
-        has_first,
-        has_second,
-        is_first_positive,
-        is_second_positive,
-    }
+    let (first, first_sign) = parts_of(pair.first);
+    let (second, second_sign) = parts_of(pair.second);
+    (
+        PairVariables { first, second },
+        PairSigns {
+            first: first_sign,
+            second: second_sign,
+        },
+    )
 }
 
-/// Returns a stored pair.
-fn pair_of(stored: &StoredPair) -> WatchedPair
-    ensures { result ≡ pair_in stored.now }
+/// Returns the pair with these parts.
+fn pair_with(variables: &PairVariables, signs: &PairSigns) -> WatchedPair
+    ensures { result ≡ pair_with variables.now signs.now }
 {
     WatchedPair {
-        first: literal_if(stored.has_first, stored.first, stored.is_first_positive),
-        second: literal_if(stored.has_second, stored.second, stored.is_second_positive),
+        first: literal_from(variables.first, signs.first),
+        second: literal_from(variables.second, signs.second),
     }
 }
 
 /// The literals that each clause watches. In contracts, they are the list of the pairs.
+///
+/// The variables and the signs of a pair are in tables of their own, and take ten bytes together.
 #[derive(Drop)]
 pub struct WatchedPairs {
-    stored: Vec<StoredPair>,
+    variables: Vec<PairVariables>,
+    signs: Vec<PairSigns>,
 }
 
 impl Model for WatchedPairs {
-    ghost use Rattle.std.specs.Prelude.{List, map};
+    ghost use Rattle.std.specs.Prelude.{◌≡◌, List, length};
     ghost use Rattle.resolver_clause_store.specs.declared.pairs.WatchedPair.{WatchedPair};
-    ghost use Rattle.resolver_clause_store.specs.WatchedPairs.{pair_in};
+    ghost use Rattle.resolver_clause_store.specs.WatchedPairs.{pairs_in};
 
     ghost Value = { List WatchedPair };
 
-    ghost view = { λ p. map pair_in p.stored.items };
+    ghost view = { λ p. pairs_in p.variables.items p.signs.items };
+
+    ghost invariant = { λ p. length p.variables.items ≡ length p.signs.items };
 }
 
 impl WatchedPairs {
@@ -95,7 +128,8 @@ impl WatchedPairs {
         ensures { result ≡ [] }
     {
         WatchedPairs {
-            stored: Vec::new(alloc),
+            variables: Vec::new(alloc),
+            signs: Vec::new(alloc),
         }
     }
 
@@ -103,7 +137,7 @@ impl WatchedPairs {
     pub fn len(&self) -> usize
         ensures { result ≡ length self.now }
     {
-        self.stored.len()
+        self.signs.len()
     }
 
     /// Returns the two literals that a clause watches.
@@ -111,7 +145,7 @@ impl WatchedPairs {
         requires { number < length self.now }
         ensures { result ≡ pair_at self.now number }
     {
-        pair_of(&self.stored[number])
+        pair_with(&self.variables[number], &self.signs[number])
     }
 
     /// Appends the pair of a new clause. An error changes nothing.
@@ -119,8 +153,15 @@ impl WatchedPairs {
         ensures pairs { OnOk result (self.new ≡ self.old ++ pair ∷ []) }
         ensures unchanged { OnErr result (self.new ≡ self.old) }
     {
-        self.stored.push(stored_of(pair))?;
-        Ok(())
+        let (variables, signs) = stored_of(pair);
+        self.variables.push(variables)?;
+        match self.signs.push(signs) {
+            Ok(()) => Ok(()),
+            Err(_) => {
+                self.variables.truncate(self.signs.len());
+                Err(AllocError)
+            }
+        }
     }
 
     /// Replaces the pair of a clause.
@@ -128,6 +169,8 @@ impl WatchedPairs {
         requires { number < length self.old }
         ensures { self.new ≡ slice_set self.old number pair }
     {
-        self.stored[number] = stored_of(pair);
+        let (variables, signs) = stored_of(pair);
+        self.variables[number] = variables;
+        self.signs[number] = signs;
     }
 }

@@ -2,7 +2,8 @@
 
 ghost use Rattle.std.specs.Prelude.{◌≡◌, ◌≢◌, ◌<◌, ◌+◌, ◌∷◌, ◌++◌, [], ℕ, IfNone, IfOk, List, MatchOption, OnErr, OnOk, length};
 ghost use Rattle.resolver_clause_store.specs.declared.parked.Chain.{Chain};
-ghost use Rattle.resolver_clause_store.specs.Parked.{AreApart, HaveSameItems, IsLoose, chain_at, empty, list_of};
+ghost use Rattle.resolver_clause_store.specs.ListPools.{list_of};
+ghost use Rattle.resolver_clause_store.specs.Parked.{AreApart, HaveSameItems, IsLoose, chain_at, empty};
 
 use crate::numbers::narrow;
 use std::alloc::{AllocError, Global};

@@ -2,7 +2,6 @@
 
 ghost use Rattle.std.specs.Prelude.{◌≡◌, ◌≢◌, ◌<◌, ◌≤◌, ◌+◌, ◌-◌, ◌^◌, ◌∷◌, ◌++◌, [], ℕ, IfOk, List, OnErr, OnOk, drop, false, length, slice_set, take, true};
 ghost use Rattle.std.specs.List.{swap_remove};
-ghost use Rattle.resolver_clause_store.specs.Parked.{list_of as starts_of};
 ghost use Rattle.resolver_clause_store.specs.ListPools.{AreHomes, AreSameLists, Extends, HasRoom, IsLoose, IsWithin, PutsList, home_at, list_of};
 ghost use Rattle.resolver_clause_store.specs.declared.pool.Home.{Home};
 
@@ -41,7 +40,7 @@ pub struct ListPool<T: Copy> {
     long: LongLists<T>,
     /// The places where the parts begin that no list has, by the number of items that they have room for.
     free: ParkedLists,
-    ghost homed: { AreHomes (length items.items) (length long) homes.items (starts_of free) },
+    ghost homed: { AreHomes (length items.items) (length long) homes.items (list_of free) },
 }
 
 /// Returns the number of items that the next larger part has room for.
@@ -94,10 +93,10 @@ fn take_part<T: Copy>(
     filler: T,
 ) -> Result<u32, AllocError>
     ensures extends { Extends items.old.items items.new.items }
-    ensures homed { (numbers : ℕ) (homes : List Home) → AreHomes (length items.old.items) numbers homes (starts_of free.old) →
-        AreHomes (length items.new.items) numbers homes (starts_of free.new) }
-    ensures loose { IfOk result (λ place. (numbers : ℕ) (homes : List Home) → AreHomes (length items.old.items) numbers homes (starts_of free.old) →
-        IsLoose (length items.new.items) homes (starts_of free.new) place capacity) }
+    ensures homed { (numbers : ℕ) (homes : List Home) → AreHomes (length items.old.items) numbers homes (list_of free.old) →
+        AreHomes (length items.new.items) numbers homes (list_of free.new) }
+    ensures loose { IfOk result (λ place. (numbers : ℕ) (homes : List Home) → AreHomes (length items.old.items) numbers homes (list_of free.old) →
+        IsLoose (length items.new.items) homes (list_of free.new) place capacity) }
 {
     match free.pop(capacity as usize)? {
         Some(place) => Ok(place),
@@ -127,8 +126,8 @@ fn add_homes(homes: &mut Vec<Home>, count: usize) -> Result<(), AllocError>
 
 /// Gives back a part that a list had, if it has room for any item.
 fn give_back(free: &mut ParkedLists, capacity: u8, place: u32) -> Result<(), AllocError>
-    ensures { (count numbers : ℕ) (homes : List Home) → IsLoose count homes (starts_of free.old) place capacity →
-        AreHomes count numbers homes (starts_of free.old) → AreHomes count numbers homes (starts_of free.new) }
+    ensures { (count numbers : ℕ) (homes : List Home) → IsLoose count homes (list_of free.old) place capacity →
+        AreHomes count numbers homes (list_of free.old) → AreHomes count numbers homes (list_of free.new) }
 {
     if capacity == 0 {
         return Ok(());

@@ -12,7 +12,7 @@ ghost use Rattle.resolver_clause_store.specs.declared.trail.Slot.{Slot};
 ghost use Rattle.resolver_clause_store.specs.declared.trail.Trail.{Trail};
 ghost use Rattle.resolver_clause_store.specs.Decisions.{IsChoice};
 ghost use Rattle.resolver_clause_store.specs.Settled.{AllSettled};
-ghost use Rattle.resolver_clause_store.specs.Parked.{list_of};
+ghost use Rattle.resolver_clause_store.specs.ListPools.{list_of};
 ghost use Rattle.resolver_clause_store.specs.Requirers.{requirer_of};
 
 use crate::clauses::{Clauses, StoredRequirement, clause};

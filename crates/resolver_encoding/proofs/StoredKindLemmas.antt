@@ -1,6 +1,5 @@
 -- How the kinds of clauses are stored.
 use Rattle.std.proofs.Common.{◌≡◌, ℕ, suc, List, [], ◌∷◌, ◌++◌, length, map, arith, refl, ap, sym, subst, ◌∙◌, length-append}
-use Rattle.std.specs.Prelude.{Result, Ok, Err, OnErr}
 use Rattle.std.specs.List.{All}
 use Rattle.std.specs.Option.{option_map_or}
 use Rattle.std.proofs.lemmas.List.{map-append}
@@ -49,8 +48,3 @@ module _ {N S : Type 0} (old new : List (ConditionalClause S)) (stored : List (S
 
   pub inside_pushed : All (IsStoredAt (length new)) (stored ++ (one, 0) ∷ [])
   inside_pushed = All-push (IsStoredAt (length new)) stored (one, 0) inside_kept stores.inside
-
--- a property that always holds, for a call that is refused
-pub refused-any : {A B : Type 0} (r : Result A B) (P : Type 0) → P → OnErr r P
-refused-any (Ok x) P holds = tt
-refused-any (Err e) P holds = holds

@@ -146,8 +146,8 @@ covers-cut table old new pairs late left pending more head lower noted covers = 
   constant = λ number inside is. noted number (covers.constant number inside is);
 }
 
-pub propagator-cut : (table : List (List Literal)) (old new : Trail) (p : Propagator) (late : Vec Late Global) (pending : Vec ℕ Global) (head : ℕ) →
-    Recalls (late_of p) late.items (pending_of p) pending.items (length_of new) → head ≡ min p.head (length_of new) → IsLower old new →
+pub propagator-cut : (table : List (List Literal)) (old new : Trail) (p : Propagator) (late : Vec Late Global) (pending : List ℕ) (head : ℕ) →
+    Recalls (late_of p) late.items (pending_of p) pending (length_of new) → head ≡ min p.head (length_of new) → IsLower old new →
     IsPropagator table old p → IsPropagator table new (record p { late = late; pending = pending; head = head })
 propagator-cut table old new p late pending head recalls is lower it = record {
   lists = it.lists ∙ ap (λ n. 2 * n) (sym lower.size);
@@ -160,8 +160,8 @@ propagator-cut table old new p late pending head recalls is lower it = record {
   covers = rw is (covers-cut table old new _ _ _ _ _ _ lower recalls.noted it.covers);
 }
 
-pub propagator-forgot : (table : List (List Literal)) (old new : Trail) (count : ℕ) (p : Propagator) (late : Vec Late Global) (pending : Vec ℕ Global) →
-    Recalls (late_of p) late.items (pending_of p) pending.items (length_of new) → count ≤ length_of old → IsCut old new count → IsPropagator table old p →
+pub propagator-forgot : (table : List (List Literal)) (old new : Trail) (count : ℕ) (p : Propagator) (late : Vec Late Global) (pending : List ℕ) →
+    Recalls (late_of p) late.items (pending_of p) pending (length_of new) → count ≤ length_of old → IsCut old new count → IsPropagator table old p →
     IsPropagator table new (record p { late = late; pending = pending; head = 0 })
 propagator-forgot table old new count p late pending recalls within cut it = record {
   lists = it.lists ∙ ap (λ n. 2 * n) (sym cut.size);
@@ -185,15 +185,14 @@ ends {X} xs x at =
     subst Ended (get_or_from_slice_get xs (length xs - 1) x x at)
     (sym (take_all (length xs - 1 + 1) xs (omega (arith, below))) ∙ take_more xs (length xs - 1) x below)
 
-pub ends-with : (all : List ℕ) (number count : ℕ) → EndsWith all number → count ≡ length all → all ≡ take (count - 1) all ++ number ∷ []
-ends-with all number count e is =
+pub ends-with : (all : List ℕ) (number : ℕ) → EndsWith all number → all ≡ take (length all - 1) all ++ number ∷ []
+ends-with all number e =
     let size : length (e.rest ++ number ∷ []) ≡ length e.rest + 1 = length-append e.rest (number ∷ []) in
     let Last : ℕ → List ℕ → Type 0 = λ n ns. slice_get ns n ≡ Some number in
     let here : slice_get (e.rest ++ number ∷ []) (length e.rest) ≡ Some number = place_last e.rest number in
     let last : length e.rest ≡ length all - 1 = omega (arith, size, ap length e.is) in
     let at : slice_get all (length all - 1) ≡ Some number = subst (λ n. Last n all) last (subst (λ ns. Last (length e.rest) ns) (sym e.is) here) in
-    let Ended : ℕ → Type 0 = λ n. all ≡ take (n - 1) all ++ number ∷ [] in
-    subst Ended (sym is) (ends all number at)
+    ends all number at
 
 -- late clauses at the end become pending, one after another
 pub record Moves (old new : List Late) (pending more : List ℕ) : Type 0 where
@@ -310,16 +309,16 @@ watching-pair pairs number first second literal are watching = ⊎_elim
     (λ (e : (pair_at pairs number).second ≡ Some literal). inr (same_Some second literal (sym (ap (λ (p : WatchedPair). p.second) are) ∙ e)))
     watching
 
-pub passed-high : (table : List (List Literal)) (trail : Trail) (p : Propagator) (pending : Vec ℕ Global) (number : ℕ) → pending_of p ≡ pending.items ++
+pub passed-high : (table : List (List Literal)) (trail : Trail) (p : Propagator) (pending : List ℕ) (number : ℕ) → pending_of p ≡ pending ++
     number ∷ [] → IsHighPair trail (pair_at (pairs_of p.watches) number) → IsSatisfied trail (clause_at table number) → IsPropagator table trail p →
     IsPropagator table trail (record p { pending = pending })
 passed-high table trail p pending number ends pair satisfied it =
     let pairs = pairs_of p.watches in
-    let all : All (λ n. n < attached_of p) (pending.items ++ number ∷ []) = subst (λ (ns : List ℕ). All (λ n. n < attached_of p) ns) ends it.pending in
-    let covers : Covers table trail pairs (late_of p) (pending.items ++ number ∷ []) (head_of p) =
+    let all : All (λ n. n < attached_of p) (pending ++ number ∷ []) = subst (λ (ns : List ℕ). All (λ n. n < attached_of p) ns) ends it.pending in
+    let covers : Covers table trail pairs (late_of p) (pending ++ number ∷ []) (head_of p) =
     subst (λ (ns : List ℕ). Covers table trail pairs (late_of p) ns (head_of p)) ends it.covers in
-    let fewer = all-fewer pending.items number (attached_of p) all in
-    let covered = covers-fewer table trail pairs (late_of p) (late_of p) pending.items number (head_of p) (head_of p) (omega arith) (λ other noted. noted)
+    let fewer = all-fewer pending number (attached_of p) all in
+    let covered = covers-fewer table trail pairs (late_of p) (late_of p) pending number (head_of p) (head_of p) (omega arith) (λ other noted. noted)
     (λ literal watching fails. ⊎_elim
     (λ (e : pair.first ≡ literal). inl (excused-high trail literal _ _ (subst (λ (l : Literal). IsHigh trail l) e pair.first_high) fails satisfied))
     (λ (e : pair.second ≡ literal). inl (excused-high trail literal _ _ (subst (λ (l : Literal). IsHigh trail l) e pair.second_high) fails satisfied))
@@ -328,32 +327,32 @@ passed-high table trail p pending number ends pair satisfied it =
     covers in
     assumption
 
-pub passed-late : (table : List (List Literal)) (trail : Trail) (p : Propagator) (late : Vec Late Global) (pending : Vec ℕ Global) (number : ℕ) →
-    pending_of p ≡ pending.items ++ number ∷ [] → late.items ≡ late_of p ++ record { number = number; length = length_of trail } ∷ [] →
+pub passed-late : (table : List (List Literal)) (trail : Trail) (p : Propagator) (late : Vec Late Global) (pending : List ℕ) (number : ℕ) →
+    pending_of p ≡ pending ++ number ∷ [] → late.items ≡ late_of p ++ record { number = number; length = length_of trail } ∷ [] →
     IsSatisfied trail (clause_at table number) → IsPropagator table trail p → IsPropagator table trail (record p { late = late; pending = pending })
 passed-late table trail p late pending number ends is satisfied it =
     let pairs = pairs_of p.watches in
     let made : Late = record { number = number; length = length_of trail } in
-    let all : All (λ n. n < attached_of p) (pending.items ++ number ∷ []) = subst (λ (ns : List ℕ). All (λ n. n < attached_of p) ns) ends it.pending in
+    let all : All (λ n. n < attached_of p) (pending ++ number ∷ []) = subst (λ (ns : List ℕ). All (λ n. n < attached_of p) ns) ends it.pending in
     let inside : number < attached_of p =
-    All-contains (λ n. n < attached_of p) (pending.items ++ number ∷ []) number all
-    (Contains-append_right pending.items (number ∷ []) number (0, omega arith, refl)) in
-    let covers : Covers table trail pairs (late_of p) (pending.items ++ number ∷ []) (head_of p) =
+    All-contains (λ n. n < attached_of p) (pending ++ number ∷ []) number all
+    (Contains-append_right pending (number ∷ []) number (0, omega arith, refl)) in
+    let covers : Covers table trail pairs (late_of p) (pending ++ number ∷ []) (head_of p) =
     subst (λ (ns : List ℕ). Covers table trail pairs (late_of p) ns (head_of p)) ends it.covers in
     let longer : List Late = late_of p ++ made ∷ [] in
     let has : Contains longer made = Contains-append_right (late_of p) (made ∷ []) made (0, omega arith, refl) in
-    let noted : IsNoted longer pending.items number = inl (has.0, made, has.1, has.2, refl) in
+    let noted : IsNoted longer pending number = inl (has.0, made, has.1, has.2, refl) in
     let was_late = subst (λ (ls : List Late). AreLate table trail ls) (sym is) (late-pushed table trail (late_of p) number it.late satisfied) in
-    let fewer = all-fewer pending.items number (attached_of p) all in
+    let fewer = all-fewer pending number (attached_of p) all in
     let attached = subst (λ (ls : List Late). All (λ (l : Late). l.number < attached_of p) ls) (sym is)
     (All-push (λ (l : Late). l.number < attached_of p) (late_of p) made it.inside inside) in
-    let covered = subst (λ (ls : List Late). Covers table trail pairs ls pending.items (head_of p)) (sym is)
-    (covers-fewer table trail pairs (late_of p) longer pending.items number (head_of p) (head_of p) (omega arith)
+    let covered = subst (λ (ls : List Late). Covers table trail pairs ls pending (head_of p)) (sym is)
+    (covers-fewer table trail pairs (late_of p) longer pending number (head_of p) (head_of p) (omega arith)
     (λ other was. ⊎_elim
     (λ (one : Any (λ (l : Late). l.number ≡ other) (late_of p)).
     let there = Contains-append_left (late_of p) (made ∷ []) one.1 (one.0, one.2, one.3) in
     inl (there.0, one.1, there.1, there.2, one.4))
-    (λ (again : Contains pending.items other). inr again)
+    (λ (again : Contains pending other). inr again)
     was)
     (λ literal watching fails. inr noted)
     (λ within unwatched_there. noted)
@@ -361,19 +360,19 @@ passed-late table trail p late pending number ends is satisfied it =
     assumption
 
 -- a clause with two literals without a value
-pub reopened : (table : List (List Literal)) (trail : Trail) (p : Propagator) (pending : Vec ℕ Global) (number head first second : ℕ) →
-    pending_of p ≡ pending.items ++ number ∷ [] → head ≡ min (min p.head first) second →
+pub reopened : (table : List (List Literal)) (trail : Trail) (p : Propagator) (pending : List ℕ) (number head first second : ℕ) →
+    pending_of p ≡ pending ++ number ∷ [] → head ≡ min (min p.head first) second →
     ((literal : Literal) → (pair_at (pairs_of p.watches) number).first ≡ Some literal → IsNotBefore trail first literal) →
     ((literal : Literal) → (pair_at (pairs_of p.watches) number).second ≡ Some literal → IsNotBefore trail second literal) →
     IsOpen trail (clause_at table number) → IsPropagator table trail p → IsPropagator table trail (record p { pending = pending; head = head })
 reopened table trail p pending number head first second ends is first_place second_place free it =
     let pairs = pairs_of p.watches in
-    let all : All (λ n. n < attached_of p) (pending.items ++ number ∷ []) = subst (λ (ns : List ℕ). All (λ n. n < attached_of p) ns) ends it.pending in
-    let covers : Covers table trail pairs (late_of p) (pending.items ++ number ∷ []) (head_of p) =
+    let all : All (λ n. n < attached_of p) (pending ++ number ∷ []) = subst (λ (ns : List ℕ). All (λ n. n < attached_of p) ns) ends it.pending in
+    let covers : Covers table trail pairs (late_of p) (pending ++ number ∷ []) (head_of p) =
     subst (λ (ns : List ℕ). Covers table trail pairs (late_of p) ns (head_of p)) ends it.covers in
-    let fewer = all-fewer pending.items number (attached_of p) all in
+    let fewer = all-fewer pending number (attached_of p) all in
     let reached : head ≤ length_of trail = omega (arith, is, it.head) in
-    let covered = covers-fewer table trail pairs (late_of p) (late_of p) pending.items number (head_of p) head (omega (arith, is)) (λ other noted. noted)
+    let covered = covers-fewer table trail pairs (late_of p) (late_of p) pending number (head_of p) head (omega (arith, is)) (λ other noted. noted)
     (λ literal watching fails. ⊎_elim
     (λ (e : (pair_at pairs number).first ≡ Some literal). absurd
     (omega (arith, first_place literal e fails.slot fails.is fails.false_there, fails.earlier, is)))
@@ -493,13 +492,13 @@ module _ (table : List (List Literal)) (clause : List Literal) (pairs : List Wat
   }
 
 pub attached-added : (table : List (List Literal)) (clause : List Literal) (trail : Trail) (p : Propagator) (watches : Watches)
-    (pending : Vec ℕ Global) (pair : Option (Literal × Literal)) (binary : Bool) → pairs_of watches ≡ pairs_of p.watches ++ pair_from pair ∷ [] →
+    (pending : List ℕ) (pair : Option (Literal × Literal)) (binary : Bool) → pairs_of watches ≡ pairs_of p.watches ++ pair_from pair ∷ [] →
     length (lists_of watches) ≡ length (lists_of p.watches) →
     (((first second : Literal) → pair ≡ Some (first, second) → Contains (clause_at (table ++ clause ∷ []) (attached_of p)) first ×
     Contains (clause_at (table ++ clause ∷ []) (attached_of p)) second) →
     (binary ≡ true → length (clause_at (table ++ clause ∷ []) (attached_of p)) ≡ 2) → FitClauses (table ++ clause ∷ []) (lists_of p.watches) →
     FitClauses (table ++ clause ∷ []) (lists_of watches)) → binary ≡ eqb (length clause) 2 →
-    pending.items ≡ pending_of p ++ attached_of p ∷ [] → MatchOption pair (IsConstant clause) (λ two. AreApart clause two.0 two.1) →
+    pending ≡ pending_of p ++ attached_of p ∷ [] → MatchOption pair (IsConstant clause) (λ two. AreApart clause two.0 two.1) →
     IsPropagator table trail p → IsPropagator (table ++ clause ∷ []) trail (record p { watches = watches; pending = pending })
 attached-added table clause trail p watches pending pair binary pairs lists fit tested is chosen it =
     let more = table ++ clause ∷ [] in

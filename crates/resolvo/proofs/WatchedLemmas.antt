@@ -17,11 +17,6 @@ use Rattle.resolvo.specs.Attaching.{AreApart}
 use Rattle.resolvo.specs.Propagators.{IsConstant, IsPropagator, WatchesTwo, attached_of}
 use Rattle.resolvo.specs.WatchedClauses.{AreInLists, AreOwned, OwnsPair}
 
--- a property that always holds, for a call that is refused
-pub refused-any : {A B : Type 0} (r : Result A B) (P : Type 0) → P → OnErr r P
-refused-any (Ok x) P holds = tt
-refused-any (Err e) P holds = holds
-
 -- by the invariant of propagation, each clause watches literals of its own
 pub owned-of : (table : List (List Literal)) (trail : Trail) (it : Propagator) → IsPropagator table trail it → AreOwned table (pairs_of it.watches)
 owned-of table trail it is = λ number inside one other apart.

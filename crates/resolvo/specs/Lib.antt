@@ -9,6 +9,7 @@ pub mod ChainProvider
 pub mod Propagation
 pub mod Propagators
 pub mod Visits
+pub mod PendingClauses
 pub mod Attaching
 pub mod Returning
 pub mod WatchedClauses

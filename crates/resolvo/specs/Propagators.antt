@@ -24,7 +24,7 @@ late_of it = it.late.items
 
 -- the clauses that are pending
 abbrev pub pending_of : Propagator → List ℕ
-pending_of it = it.pending.items
+pending_of it = it.pending
 
 -- the number of attached clauses
 abbrev pub attached_of : Propagator → ℕ

@@ -1,10 +1,12 @@
 //! Unit propagation by watched literals.
 
 mod attaching;
+mod pending;
 mod returning;
 mod visiting;
 
 pub use attaching::apply_all_pending;
+use pending::PendingClauses;
 use resolver_clause_store::Watches;
 pub use returning::begins_level;
 pub use visiting::propagate;
@@ -24,8 +26,7 @@ pub struct Late {
 pub struct Propagator {
     watches: Watches,
     late: Vec<Late>,
-    /// The numbers of the clauses that are pending: to be examined before anything is propagated.
-    pending: Vec<u32>,
+    pending: PendingClauses,
     /// The number of entries of the trail that have been propagated.
     head: usize,
 }

@@ -16,6 +16,7 @@ ghost use Rattle.resolvo.specs.WatchedClauses.{OwnsPair};
 ghost use Rattle.resolver_clause_store.specs.Watches.{IsWatching, pair_at};
 ghost use Rattle.resolver_clause_store.specs.WatchesView.{lists_of, pairs_of};
 
+use super::pending::PendingClauses;
 use super::{Late, Propagator};
 use crate::clause_state::{State, examine};
 use resolver_clause_store::{Clauses, Literal, Trail, WatchedPair, Watches, clause, narrow};
@@ -29,7 +30,7 @@ impl Propagator {
         Propagator {
             watches: Watches::empty(alloc),
             late: Vec::new(alloc),
-            pending: Vec::new(alloc),
+            pending: PendingClauses::new(alloc),
             head: 0,
         }
     }
@@ -102,7 +103,7 @@ impl Propagator {
         ensures fewer { OnOk result (length (pending_of self.new) + 1 ≡ length (pending_of self.old)) }
     {
         let pair = self.watches.pair(number);
-        self.pending.truncate(self.pending.len() - 1);
+        self.pending.pop();
         if are_high(trail, pair.first, pair.second) {
             return Ok(());
         }
@@ -124,7 +125,7 @@ impl Propagator {
         ensures fewer { length (pending_of self.new) + 1 ≡ length (pending_of self.old) }
     {
         let pair = self.watches.pair(number);
-        self.pending.truncate(self.pending.len() - 1);
+        self.pending.pop();
         let first = false_place(trail, pair.first);
         let second = false_place(trail, pair.second);
         self.head = self.head.min(first).min(second);
@@ -344,7 +345,6 @@ pub fn apply_all_pending(
     ensures step { OnOk result (Forces table.now trail.old trail.new) }
 {
     'pending: while let Some(number) = propagator.pending.last() {
-        let number = *number as usize;
         if !apply_pending(trail, table, propagator, number)? {
             return Ok(Some(number));
         }

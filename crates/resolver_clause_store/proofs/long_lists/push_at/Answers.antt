@@ -1,10 +1,10 @@
 use Rattle.std.proofs.Common.{◌∷◌, ◌++◌, []}
 use Rattle.resolver_clause_store.proofs.LongListLemmas.{puts-at, same-at}
-use Rattle.resolver_clause_store.proofs.ParkedLemmas.{unchanged-any}
+use Rattle.resolver_clause_store.proofs.ResultLemmas.{refused-any}
 use Rattle.resolver_clause_store.proofs.long_lists.push_at.Goals as goal
 
 pub returns-in_err-push-clause-unchanged : goal.returns-in_err-push-clause-unchanged
-returns-in_err-push-clause-unchanged g c = unchanged-any _ _ (same-at _ _ _ _ c.index_mut.ensures.value c.in_err-push.ensures.items)
+returns-in_err-push-clause-unchanged g c = refused-any _ _ (same-at _ _ _ _ c.index_mut.ensures.value c.in_err-push.ensures.items)
 
 pub returns-clause-pushed : goal.returns-clause-pushed
 returns-clause-pushed g c =

@@ -9,7 +9,8 @@ use Rattle.resolvo.proofs.LoadLemmas.{keeps_extended, keeps_more}
 use Rattle.resolvo.proofs.TurnLemmas.{none-extends, none-trans}
 use Rattle.resolver_clause_store.specs.declared.Watches.{Watches}
 use Rattle.resolver_clause_store.specs.WatchesView.{pairs_of}
-use Rattle.resolvo.proofs.WatchedLemmas.{owned-of, owned-same, refused-any}
+use Rattle.resolver_clause_store.proofs.ResultLemmas.{refused-any}
+use Rattle.resolvo.proofs.WatchedLemmas.{owned-of, owned-same}
 use Rattle.std.proofs.lemmas.Result.{IfOk-from_err}
 use Rattle.resolver_encoding.proofs.RefusalLemmas.{IfErr-of}
 use Rattle.resolvo.proofs.clause_search.descend.Goals as goal

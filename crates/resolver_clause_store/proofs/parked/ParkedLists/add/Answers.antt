@@ -1,5 +1,6 @@
 use Rattle.std.proofs.Common.{ℕ, List, ◌∷◌, ap, refl, ◌∙◌}
-use Rattle.resolver_clause_store.proofs.ParkedLemmas.{put-apart, put-here, put-others, reached-apart, same-seen, unchanged-any}
+use Rattle.resolver_clause_store.proofs.ResultLemmas.{refused-any}
+use Rattle.resolver_clause_store.proofs.ParkedLemmas.{put-apart, put-here, put-others, reached-apart, same-seen}
 use Rattle.resolver_clause_store.proofs.parked.ParkedLists.add.Goals as goal
 
 pub invariant_of-self : goal.invariant_of-self
@@ -12,7 +13,7 @@ returns-in_err-reach-clause-others c =
 
 pub returns-in_err-reach-clause-unchanged : goal.returns-in_err-reach-clause-unchanged
 returns-in_err-reach-clause-unchanged c =
-    unchanged-any _ _ (same-seen _ c.self.inside.nodes.items _ c.reach.new.lists.items _ c.self.view_is c.reach.ensures.same (λ number. refl) c.args.number)
+    refused-any _ _ (same-seen _ c.self.inside.nodes.items _ c.reach.new.lists.items _ c.self.view_is c.reach.ensures.same (λ number. refl) c.args.number)
 
 pub invariant_of-self-in_err-first : goal.invariant_of-self-in_err-first
 invariant_of-self-in_err-first c =
@@ -33,7 +34,7 @@ returns-in_err-first-clause-unchanged c =
     let same =
     same-seen _ c.spare.new.nodes.items _ c.reach.new.lists.items _ c.self.view_is c.reach.ensures.same
     (c.spare.ensures.items c.reach.new.lists.items reached) in
-    unchanged-any _ _ (same c.args.number)
+    refused-any _ _ (same c.args.number)
 
 pub invariant_of-self-in_err-grown : goal.invariant_of-self-in_err-grown
 invariant_of-self-in_err-grown c =
@@ -54,7 +55,7 @@ returns-in_err-grown-clause-unchanged c =
     let same =
     same-seen _ c.spare.new.nodes.items _ c.reach.new.lists.items _ c.self.view_is c.reach.ensures.same
     (c.spare.ensures.items c.reach.new.lists.items reached) in
-    unchanged-any _ _ (same c.args.number)
+    refused-any _ _ (same c.args.number)
 
 pub invariant_of-self-2 : goal.invariant_of-self-2
 invariant_of-self-2 c =

@@ -1,5 +1,5 @@
 use Rattle.std.proofs.Common.{ℕ, List, ap, sym, ◌∙◌}
-use Rattle.resolver_clause_store.specs.Parked.{list_of}
+use Rattle.resolver_clause_store.specs.ListPools.{list_of}
 use Rattle.resolver_clause_store.proofs.ParkedLemmas.{first-inside, number-inside, taken-apart, taken-here, taken-others}
 use Rattle.resolver_clause_store.proofs.parked.ParkedLists.pop_first.Goals as goal
 

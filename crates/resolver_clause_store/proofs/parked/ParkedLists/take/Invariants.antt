@@ -1,5 +1,5 @@
 use Rattle.std.proofs.Common.{◌≡◌, ◌≢◌, ◌++◌, ℕ, length}
-use Rattle.resolver_clause_store.specs.Parked.{list_of}
+use Rattle.resolver_clause_store.specs.ListPools.{list_of}
 use Rattle.resolver_clause_store.proofs.parked.ParkedLists.take.Given as goal
 
 abbrev pub invariant-items : goal.invariant-items

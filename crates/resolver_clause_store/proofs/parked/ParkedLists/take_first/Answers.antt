@@ -1,5 +1,5 @@
 use Rattle.std.proofs.Common.{ℕ, List, ap, arith, length, sym, ◌∙◌}
-use Rattle.resolver_clause_store.specs.Parked.{list_of}
+use Rattle.resolver_clause_store.specs.ListPools.{list_of}
 use Rattle.resolver_clause_store.proofs.ParkedLemmas.{first-inside, moved-first, number-inside, taken-apart, taken-here, taken-others}
 use Rattle.resolver_clause_store.proofs.parked.ParkedLists.take_first.Goals as goal
 

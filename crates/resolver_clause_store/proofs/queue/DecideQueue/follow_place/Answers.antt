@@ -1,6 +1,6 @@
 use Rattle.std.proofs.Common.{ℕ, List, Contains, inl, inr, refl, sym, subst}
 use Rattle.std.proofs.lemmas.List.Elements.{Contains-append_left, Contains-append_right}
-use Rattle.resolver_clause_store.specs.Parked.{list_of}
+use Rattle.resolver_clause_store.specs.ListPools.{list_of}
 use Rattle.resolver_clause_store.proofs.QueueLemmas.{found-false, queued-follow}
 use Rattle.resolver_clause_store.proofs.queue.DecideQueue.follow_place.Goals as goal
 

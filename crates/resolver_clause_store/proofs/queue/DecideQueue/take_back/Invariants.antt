@@ -1,7 +1,7 @@
 use Rattle.std.proofs.Common.{◌≡◌, List, length}
 use Rattle.resolver_clause_store.specs.declared.literals.Literal.{Literal}
 use Rattle.resolver_clause_store.specs.declared.clauses.StoredRequirement.{StoredRequirement}
-use Rattle.resolver_clause_store.specs.Parked.{list_of}
+use Rattle.resolver_clause_store.specs.ListPools.{list_of}
 use Rattle.resolver_clause_store.specs.Queues.{IsQueued}
 use Rattle.resolver_clause_store.proofs.queue.DecideQueue.take_back.Given as goal
 

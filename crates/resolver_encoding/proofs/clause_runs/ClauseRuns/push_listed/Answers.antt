@@ -1,7 +1,7 @@
 use Rattle.std.proofs.Common.{◌≡◌, ◌++◌, ◌∷◌, [], ap, ◌∙◌, map}
 use Rattle.resolver_encoding.specs.ClauseRuns.{literals_at}
 use Rattle.resolver_encoding.proofs.ClauseRunLemmas.{clauses_kept, clauses_pushed, inside_kept, inside_pushed, listed_stands}
-use Rattle.resolver_encoding.proofs.StoredKindLemmas.{refused-any}
+use Rattle.resolver_clause_store.proofs.ResultLemmas.{refused-any}
 use Rattle.resolver_encoding.proofs.clause_runs.ClauseRuns.push_listed.Goals as goal
 
 pub invariant_of-self-in_err-begin : goal.invariant_of-self-in_err-begin

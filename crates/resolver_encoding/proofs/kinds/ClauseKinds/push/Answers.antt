@@ -1,6 +1,7 @@
 use Rattle.std.proofs.Common.{◌≡◌, ◌++◌, ◌∷◌, [], ap, ◌∙◌, map}
 use Rattle.resolver_encoding.specs.Kinds.{kind_at}
-use Rattle.resolver_encoding.proofs.StoredKindLemmas.{inside_kept, inside_pushed, kinds_kept, kinds_pushed, refused-any}
+use Rattle.resolver_clause_store.proofs.ResultLemmas.{refused-any}
+use Rattle.resolver_encoding.proofs.StoredKindLemmas.{inside_kept, inside_pushed, kinds_kept, kinds_pushed}
 use Rattle.resolver_encoding.proofs.kinds.ClauseKinds.push.Goals as goal
 
 pub invariant_of-self-in_err-begin : goal.invariant_of-self-in_err-begin

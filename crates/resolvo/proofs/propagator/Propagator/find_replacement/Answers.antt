@@ -4,7 +4,8 @@ use Rattle.resolver_clause_store.specs.TrailView.{literal_value}
 use Rattle.resolver_clause_store.specs.declared.Literal.{Literal}
 use Rattle.resolvo.proofs.VisitLemmas.{moves, own-other, extends-same}
 use Rattle.resolvo.proofs.TwoLiteralLemmas.{false-now, own-false}
-use Rattle.resolvo.proofs.WatchedLemmas.{owned-of, owned-same, refused-any}
+use Rattle.resolver_clause_store.proofs.ResultLemmas.{refused-any}
+use Rattle.resolvo.proofs.WatchedLemmas.{owned-of, owned-same}
 use Rattle.std.proofs.lemmas.Result.{IfOk-from_err}
 use Rattle.resolvo.proofs.propagator.Propagator.find_replacement.Goals as goal
 

@@ -18,7 +18,7 @@ late-preserved c =
     let So : List Late → Type 0 = λ ls. Moves (late_of c.args.self.now) ls (pending_of c.args.self.now) (pending_of c.late.self) in
     let moves = moves-more _ _ _ _ _ (subst So all c.late.invariant.moves) in
     record {
-      moves = rw c.in_ok-push.ensures.items moves;
+      moves = rw c.in_ok-push.ensures.added moves;
       watches = c.late.invariant.watches;
       head = c.late.invariant.head;
     }

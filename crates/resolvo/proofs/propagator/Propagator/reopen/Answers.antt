@@ -1,4 +1,4 @@
-use Rattle.std.proofs.Common.{rules, inl, inr, sym, ap, ◌∙◌, ◌≡◌, ◌++◌, ◌∷◌, [], length}
+use Rattle.std.proofs.Common.{inl, inr, sym, ap, ◌∙◌, ◌≡◌, ◌++◌, ◌∷◌, []}
 use Rattle.resolver_clause_store.specs.declared.WatchedPair.{WatchedPair}
 use Rattle.resolvo.specs.Propagators.{pending_of}
 use Rattle.resolvo.proofs.AttachingLemmas.{ends-with, reopened}
@@ -12,9 +12,8 @@ false_place-second-requires c = λ literal e. c.requires.below literal (inr (ap 
 
 pub returns-clause-propagator : goal.returns-clause-propagator
 returns-clause-propagator c = λ table free it.
-    let size : c.len.result ≡ length (pending_of c.args.self.now) = search rules in
-    let ends : pending_of c.args.self.now ≡ c.truncate.new.self.items ++ c.args.number ∷ [] =
-    rw c.truncate.ensures.items (ends-with (pending_of c.args.self.now) c.args.number c.len.result c.requires.last size) in
+    let ends : pending_of c.args.self.now ≡ c.pop.new.self ++ c.args.number ∷ [] =
+    rw c.pop.ensures (ends-with (pending_of c.args.self.now) c.args.number c.requires.last) in
     let first = rw c.pair-pair.ensures at c.false_place-first.ensures in
     let second = rw c.pair-pair.ensures at c.false_place-second.ensures in
     reopened table c.args.trail.now c.args.self.now _ c.args.number _ _ _ ends (rw c.min.ensures at c.min-self.ensures) first second free it
