@@ -1,7 +1,8 @@
 //! The two literals that each clause watches.
 
-ghost use Rattle.std.specs.Prelude.{◌<◌, ◌≡◌, ◌++◌, ◌∷◌, [], OnErr, OnOk, length, slice_set};
-ghost use Rattle.resolver_clause_store.specs.Watches.{pair_at};
+ghost use Rattle.std.specs.Prelude.{◌<◌, ◌≡◌, ◌≢◌, ◌++◌, ◌∷◌, [], ℕ, OnErr, OnOk, Some, length, slice_set};
+ghost use Rattle.resolver_clause_store.specs.Watches.{IsPair, is_watched, pair_at, replaced};
+ghost use Rattle.resolver_clause_store.specs.declared.literals.Literal.{Literal};
 ghost use Rattle.resolver_clause_store.specs.WatchedPairs.{literal_from, pair_with};
 
 use crate::literals::{Literal, Variable};
@@ -23,7 +24,7 @@ pub struct PairVariables {
 }
 
 /// The sign of a literal that is watched, in one byte.
-#[derive(Clone, Copy)]
+#[derive(Clone, Copy, PartialEq, Eq)]
 pub enum WatchedSign {
     Negative,
     Positive,
@@ -38,23 +39,22 @@ pub struct PairSigns {
     second: WatchedSign,
 }
 
+/// Returns a sign as it is stored.
+fn stored_sign(positive: bool) -> WatchedSign
+    ensures { (variable : ℕ) → literal_from variable result ≡ Some (record { variable = variable; positive = positive }) }
+{
+    if positive {
+        return WatchedSign::Positive;
+    }
+    WatchedSign::Negative
+}
+
 /// Returns the variable and the sign of a literal, if there is one.
 fn parts_of(literal: Option<Literal>) -> (Variable, WatchedSign)
     ensures { literal_from result.0 result.1 ≡ literal }
 {
     match literal {
-        Some(
-            Literal {
-                variable,
-                positive: true,
-            },
-        ) => (variable, WatchedSign::Positive),
-        Some(
-            Literal {
-                variable,
-                positive: false,
-            },
-        ) => (variable, WatchedSign::Negative),
+        Some(Literal { variable, positive }) => (variable, stored_sign(positive)),
         None => (Variable::new(0), WatchedSign::Unwatched),
     }
 }
@@ -63,17 +63,13 @@ fn parts_of(literal: Option<Literal>) -> (Variable, WatchedSign)
 fn literal_from(variable: Variable, sign: WatchedSign) -> Option<Literal>
     ensures { result ≡ literal_from variable sign }
 {
-    match sign {
-        WatchedSign::Negative => Some(Literal {
-            variable,
-            positive: false,
-        }),
-        WatchedSign::Positive => Some(Literal {
-            variable,
-            positive: true,
-        }),
-        WatchedSign::Unwatched => None,
+    if sign == WatchedSign::Unwatched {
+        return None;
     }
+    Some(Literal {
+        variable,
+        positive: sign == WatchedSign::Positive,
+    })
 }
 
 /// Returns the parts of a pair.
@@ -98,6 +94,74 @@ fn pair_with(variables: &PairVariables, signs: &PairSigns) -> WatchedPair
     WatchedPair {
         first: literal_from(variables.first, signs.first),
         second: literal_from(variables.second, signs.second),
+    }
+}
+
+/// Returns whether this literal is watched, by what is stored of it.
+fn is_stored(variable: Variable, sign: WatchedSign, literal: Literal) -> bool
+    ensures { result ≡ is_watched (literal_from variable sign) literal }
+{
+    if variable != literal.variable {
+        return false;
+    }
+    if literal.positive {
+        return sign == WatchedSign::Positive;
+    }
+    sign == WatchedSign::Negative
+}
+
+/// Returns the literal with a variable and a sign. If none is watched, it means nothing.
+fn literal_with(variable: Variable, sign: WatchedSign) -> Literal
+    ensures { (literal : Literal) → literal_from variable sign ≡ Some literal → result ≡ literal }
+{
+    Literal {
+        variable,
+        positive: sign == WatchedSign::Positive,
+    }
+}
+
+/// Returns the literal of a pair beside this one.
+fn other_of(variables: &PairVariables, signs: &PairSigns, literal: &Literal) -> Literal
+    ensures { (other : Literal) → literal.now ≢ other → IsPair (pair_with variables.now signs.now) literal.now other → result ≡ other }
+{
+    if is_stored(variables.first, signs.first, *literal) {
+        return literal_with(variables.second, signs.second);
+    }
+    literal_with(variables.first, signs.first)
+}
+
+/// Returns the parts of a pair with one literal replaced by another.
+fn replaced(
+    variables: PairVariables,
+    signs: PairSigns,
+    from: Literal,
+    to: Literal,
+) -> (PairVariables, PairSigns)
+    ensures { pair_with result.0 result.1 ≡ replaced (pair_with variables signs) from to }
+{
+    let (variable, sign) = (to.variable, stored_sign(to.positive));
+    if is_stored(variables.first, signs.first, from) {
+        (
+            PairVariables {
+                first: variable,
+                second: variables.second,
+            },
+            PairSigns {
+                first: sign,
+                second: signs.second,
+            },
+        )
+    } else {
+        (
+            PairVariables {
+                first: variables.first,
+                second: variable,
+            },
+            PairSigns {
+                first: signs.first,
+                second: sign,
+            },
+        )
     }
 }
 
@@ -148,6 +212,14 @@ impl WatchedPairs {
         pair_with(&self.variables[number], &self.signs[number])
     }
 
+    /// Returns the literal that a clause watches beside this one.
+    pub fn other(&self, number: usize, literal: &Literal) -> Literal
+        requires { number < length self.now }
+        ensures { (other : Literal) → literal.now ≢ other → IsPair (pair_at self.now number) literal.now other → result ≡ other }
+    {
+        other_of(&self.variables[number], &self.signs[number], literal)
+    }
+
     /// Appends the pair of a new clause. An error changes nothing.
     pub fn push(&mut self, pair: WatchedPair) -> Result<(), AllocError>
         ensures pairs { OnOk result (self.new ≡ self.old ++ pair ∷ []) }
@@ -170,6 +242,16 @@ impl WatchedPairs {
         ensures { self.new ≡ slice_set self.old number pair }
     {
         let (variables, signs) = stored_of(pair);
+        self.variables[number] = variables;
+        self.signs[number] = signs;
+    }
+
+    /// Replaces a literal that a clause watches by another.
+    pub fn replace(&mut self, number: usize, from: Literal, to: Literal)
+        requires { number < length self.old }
+        ensures { self.new ≡ slice_set self.old number (replaced (pair_at self.old number) from to) }
+    {
+        let (variables, signs) = replaced(self.variables[number], self.signs[number], from, to);
         self.variables[number] = variables;
         self.signs[number] = signs;
     }

@@ -6,7 +6,7 @@ ghost use Rattle.resolver_clause_store.specs.ListPoolsView.{lists_in};
 ghost use Rattle.resolver_clause_store.specs.declared.literals.Literal.{Literal};
 ghost use Rattle.resolver_clause_store.specs.TrailView.{variable_count};
 ghost use Rattle.resolver_clause_store.specs.Unsatisfied.{IsFirstUnsatisfied, IsNextUnsatisfied};
-ghost use Rattle.resolver_clause_store.specs.Watches.{IsWatched, blocker_of, is_watched, list_at, list_number, replaced, watch_at, with_blocker};
+ghost use Rattle.resolver_clause_store.specs.Watches.{IsWatched, blocker_of, list_at, list_number, watch_at, with_blocker};
 
 use crate::literals::{Literal, Variable};
 use crate::numbers::narrow;
@@ -71,33 +71,6 @@ pub fn copied(literal: &Literal) -> Literal
     *literal
 }
 
-/// Returns whether there is a literal, and it is this one.
-fn is_watched(watched: Option<Literal>, literal: Literal) -> bool
-    ensures { result ≡ is_watched watched literal }
-{
-    match watched {
-        Some(one) => one == literal,
-        None => false,
-    }
-}
-
-/// Returns the pair with one literal replaced by another.
-fn replaced(pair: WatchedPair, from: Literal, to: Literal) -> WatchedPair
-    ensures { result ≡ replaced pair from to }
-{
-    if is_watched(pair.first, from) {
-        WatchedPair {
-            first: Some(to),
-            second: pair.second,
-        }
-    } else {
-        WatchedPair {
-            first: pair.first,
-            second: Some(to),
-        }
-    }
-}
-
 /// Returns the first place from this one on whose blocker is not true, or the number of watches.
 fn first_unsatisfied(watches: &[Watch], trail: &Trail, from: usize) -> usize
     requires from { from ≤ length watches.now }
@@ -139,7 +112,7 @@ pub struct Watches {
 impl Watches {
     ghost use Rattle.std.specs.Prelude.{Contains, true};
     ghost use Rattle.resolver_clause_store.specs.Formula.{clause_at};
-    ghost use Rattle.resolver_clause_store.specs.Watches.{FitClauses, IsWatching, MovesWatch, SameClauses, pair_at, pair_count, pair_from, same, unwatched};
+    ghost use Rattle.resolver_clause_store.specs.Watches.{FitClauses, IsPair, IsWatching, MovesWatch, SameClauses, pair_at, pair_count, pair_from, same, unwatched};
     ghost use Rattle.resolver_clause_store.specs.Watches.{watched_pair};
     ghost use Rattle.resolver_clause_store.specs.WatchesView.{HasList, lists_of, pairs_of};
 
@@ -181,6 +154,14 @@ impl Watches {
         ensures { result ≡ pair_at (pairs_of self.now) number }
     {
         self.pairs.at(number)
+    }
+
+    /// Returns the literal that a clause watches beside this one.
+    pub fn other_watched(&self, number: usize, literal: &Literal) -> Literal
+        requires { number < length (pairs_of self.now) }
+        ensures { (other : Literal) → literal.now ≢ other → IsPair (pair_at (pairs_of self.now) number) literal.now other → result ≡ other }
+    {
+        self.pairs.other(number, literal)
     }
 
     /// Brings the list of a literal to hand, which changes no list. A long list is found sooner then.
@@ -361,9 +342,7 @@ impl Watches {
         let moved = watch_of(placed.watch.number, blocker, placed.watch.is_binary);
         self.lists.push(list_number(copied(&to)), moved)?;
         self.lists.take(list_number(copied(&from)), placed.place);
-        let index = placed.watch.number as usize;
-        let pair = replaced(self.pairs.at(index), from, to);
-        self.pairs.set(index, pair);
+        self.pairs.replace(placed.watch.number as usize, from, to);
         Ok(())
     }
 }

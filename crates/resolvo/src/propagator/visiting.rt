@@ -11,11 +11,11 @@ ghost use Rattle.resolver_clause_store.specs.Settled.{AllSettled};
 ghost use Rattle.resolvo.specs.Propagators.{IsAttached, IsPropagator};
 ghost use Rattle.resolvo.specs.Visits.{FailsAt, IsPaired, IsPlaced, IsVisiting, WatchOutcomeIs, Replaces, StandsAt};
 ghost use Rattle.resolvo.specs.WatchedClauses.{AreOwned};
-ghost use Rattle.resolver_clause_store.specs.Watches.{IsPair, IsWatching};
+ghost use Rattle.resolver_clause_store.specs.Watches.{IsWatching};
 ghost use Rattle.resolver_clause_store.specs.WatchesView.{HasList, pairs_of};
 
 use super::{Late, Propagator};
-use resolver_clause_store::{Clauses, Literal, PlacedWatch, Trail, WatchedPair, clause, narrow};
+use resolver_clause_store::{Clauses, Literal, PlacedWatch, Trail, clause, narrow};
 use std::alloc::AllocError;
 
 /// A literal that has become false.
@@ -43,22 +43,6 @@ pub enum WatchOutcome {
     Next(usize),
     /// Each literal of the clause with this number is false.
     Conflict(usize),
-}
-
-/// Returns the other literal that the clause watches.
-fn other_watched(pair: &WatchedPair, literal: &Literal) -> Literal
-    ensures { (other : Literal) → literal.now ≢ other → IsPair pair.now literal.now other → result ≡ other }
-{
-    if pair.first == Some(*literal) {
-        return match pair.second {
-            Some(second) => second,
-            None => *literal,
-        };
-    }
-    match pair.first {
-        Some(first) => first,
-        None => *literal,
-    }
 }
 
 /// Returns the first literal of the clause that is not false, other than `other`.
@@ -290,10 +274,11 @@ impl Propagator {
         ensures open_ones { open_count trail.new ≤ open_count trail.old }
         ensures total { open_count trail.new + length_of trail.new ≡ open_count trail.old + length_of trail.old }
     {
-        let pair = self.watches.pair(placed.watch.number as usize);
         let watcher = Watcher {
             placed: *placed,
-            other: other_watched(&pair, &falsified.literal),
+            other: self
+                .watches
+                .other_watched(placed.watch.number as usize, &falsified.literal),
         };
         if trail.is_true(watcher.other) {
             let outcome = self.pass_by_other(trail, table, falsified, &watcher)?;

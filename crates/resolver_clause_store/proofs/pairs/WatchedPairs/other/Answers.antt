@@ -1,0 +1,22 @@
+use Rattle.std.proofs.Common.{◌≡◌, ◌<◌, arith, length, rules, sym, subst}
+use Rattle.std.specs.Vec.{vec_len}
+use Rattle.resolver_clause_store.specs.declared.pairs.WatchedPair.{WatchedPair}
+use Rattle.resolver_clause_store.specs.Watches.{IsPair, unwatched}
+use Rattle.resolver_clause_store.proofs.StoredPairLemmas.{length-pairs, pair-read}
+use Rattle.resolver_clause_store.proofs.pairs.WatchedPairs.other.Goals as goal
+
+pub index-requires : goal.index-requires
+index-requires c =
+    let size : vec_len c.self.inside.variables ≡ length c.self.inside.variables.items = search rules in
+    omega (arith, size, length-pairs _ _ _ c.self.invariant c.self.view_is, c.self.invariant, c.requires)
+
+pub index-requires-2 : goal.index-requires-2
+index-requires-2 c =
+    let size : vec_len c.self.inside.signs ≡ length c.self.inside.signs.items = search rules in
+    omega (arith, size, length-pairs _ _ _ c.self.invariant c.self.view_is, c.requires)
+
+pub returns : goal.returns
+returns c = λ other differ pair.
+    let within : c.args.number < length c.self.inside.signs.items = omega (arith, length-pairs _ _ _ c.self.invariant c.self.view_is, c.requires) in
+    let read = pair-read _ _ _ c.self.invariant c.self.view_is c.args.number _ _ unwatched within c.index.ensures c.index-2.ensures in
+    c.other_of.ensures other differ (subst (λ (p : WatchedPair). IsPair p c.args.literal.now other) (sym read) pair)
