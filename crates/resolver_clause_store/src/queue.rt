@@ -130,6 +130,11 @@ impl DecideQueue {
         Ok(())
     }
 
+    /// Returns the score of a variable's package, 0 if it has none.
+    pub fn score_of(&self, variable: Variable) -> u64 {
+        self.ranks.score_of(variable)
+    }
+
     /// Notes that at most the first `count` entries of the trail are unchanged.
     pub fn cut(&mut self, count: usize)
         ensures { (old new : Trail) (table : List (List Literal)) (requirements : List StoredRequirement) →

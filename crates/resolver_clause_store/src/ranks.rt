@@ -374,6 +374,14 @@ impl Ranks {
         Ok(())
     }
 
+    /// Returns the score of a variable's package, 0 if that is not known.
+    pub fn score_of(&self, variable: Variable) -> u64 {
+        match self.owner_of(variable).number() {
+            Some(number) => self.scores.of(number, self.learnt),
+            None => 0,
+        }
+    }
+
     /// Returns the score of the package of a rank.
     fn current_score(&mut self, rank: &Rank) -> u64
         ensures changed { self.new.changed.items ≡ self.old.changed.items }

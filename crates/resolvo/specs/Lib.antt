@@ -16,6 +16,7 @@ pub mod WatchedClauses
 pub mod Resolvents
 pub mod Places
 pub mod Sources
+pub mod Steps
 pub mod Derivations
 pub mod ClauseSearches
 pub mod RoundStates

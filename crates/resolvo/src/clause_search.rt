@@ -20,6 +20,7 @@ ghost use Rattle.resolvo.specs.Propagation.{AreChosen, AssumesNone, IsConflict, 
 ghost use Rattle.resolver_clause_store.specs.Settled.{AllSettled};
 ghost use Rattle.resolver_clause_store.specs.WatchesView.{pairs_of};
 ghost use Rattle.resolvo.specs.Propagators.{IsPropagator};
+ghost use Rattle.resolvo.specs.Steps.{StepIs};
 ghost use Rattle.resolvo.specs.declared.propagator.Propagator.{Propagator};
 ghost use Rattle.resolvo.specs.WatchedClauses.{AreInLists, AreOwned};
 ghost use Rattle.resolver_clause_store.specs.Queues.{IsQueued};
@@ -30,6 +31,7 @@ use crate::clause_state::{State, examine};
 use crate::contradiction::core;
 use crate::places::Places;
 use crate::propagator::{Propagator, apply_all_pending, begins_level, propagate};
+use crate::restarts::{is_due, kept_level};
 use crate::sources::Sources;
 use resolver_clause_store::{
     Activity, Choice, Clauses, DecideQueue, DependencyProvider, Exhausted, Interrupted, Literal,
@@ -97,6 +99,59 @@ pub fn take(trail: &mut Trail, table: &Clauses, choice: Choice) -> Result<(), Al
     Ok(())
 }
 
+/// What comes next in a search.
+#[derive(Drop)]
+pub enum Step {
+    /// A candidate that is decided next.
+    Decide(Choice),
+    /// The clause with this number is false.
+    Conflict(usize),
+    /// No requirement is left to decide.
+    Finished,
+}
+
+/// Propagates, and returns what comes next.
+///
+/// The provider may stop the search before the propagation.
+pub fn next_step<D: DependencyProvider>(
+    provider: &D,
+    trail: &mut Trail,
+    queue: &mut DecideQueue,
+    table: &Clauses,
+    requirements: &[StoredRequirement],
+    propagator: &mut Propagator,
+) -> Result<Step, Interrupted<D::Cancel>>
+    requires below { AreBelow (variable_count trail.old) table.now }
+    requires propagator { IsPropagator table.now trail.old propagator.old }
+    requires inside { All (λ (requirement : StoredRequirement). requirement.number < length table.now) requirements.now }
+    requires justified { IsJustified table.now trail.old }
+    requires chosen { AreChosen table.now requirements.now trail.old }
+    requires queued { IsQueued queue.old trail.old table.now requirements.now }
+    ensures step { IfOk result (StepIs trail.new table.now requirements.now) }
+    ensures propagator { OnOk result (IsPropagator table.now trail.new propagator.new) }
+    ensures refused { OnErr result (AreOwned table.now (pairs_of propagator.new.watches)) }
+    ensures justified { OnOk result (IsJustified table.now trail.new) }
+    ensures chosen { OnOk result (AreChosen table.now requirements.now trail.new) }
+    ensures size { OnOk result (variable_count trail.new ≡ variable_count trail.old) }
+    ensures kept { OnOk result (KeepsPlaces trail.old trail.new (length_of trail.old)) }
+    ensures fewer { OnOk result (open_count trail.new ≤ open_count trail.old) }
+    ensures assumed { OnOk result (AssumesNone trail.old trail.new) }
+    ensures queued { OnOk result (IsQueued queue.new trail.new table.now requirements.now) }
+    ensures refusal { IfErr result (IsInterruption (D.may_cancel provider.now)) }
+{
+    check_cancel(provider)?;
+    if let Some(number) = apply_all_pending(trail, table, propagator)? {
+        return Ok(Step::Conflict(number));
+    }
+    if let Some(number) = propagate(trail, table, propagator)? {
+        return Ok(Step::Conflict(number));
+    }
+    match queue.next(trail, table, requirements)? {
+        Some(choice) => Ok(Step::Decide(choice)),
+        None => Ok(Step::Finished),
+    }
+}
+
 /// Propagates and decides until no requirement is left to decide or a clause is false. Returns the number of that
 /// clause.
 ///
@@ -129,19 +184,12 @@ pub fn descend<D: DependencyProvider>(
     ensures queued { OnOk result (IsQueued queue.new trail.new table.now requirements.now) }
     ensures refusal { IfErr result (IsInterruption (D.may_cancel provider.now)) }
 {
-    check_cancel(provider)?;
-    if let Some(number) = apply_all_pending(trail, table, propagator)? {
-        return Ok(Some(number));
-    }
-    'rounds: loop {
-        if let Some(number) = propagate(trail, table, propagator)? {
-            return Ok(Some(number));
+    'steps: loop {
+        match next_step(provider, trail, queue, table, requirements, propagator)? {
+            Step::Decide(choice) => take(trail, table, choice)?,
+            Step::Conflict(number) => return Ok(Some(number)),
+            Step::Finished => return Ok(None),
         }
-        match queue.next(trail, table, requirements)? {
-            Some(choice) => take(trail, table, choice)?,
-            None => return Ok(None),
-        }
-        check_cancel(provider)?;
     }
 }
 
@@ -539,6 +587,60 @@ impl ClauseSearch {
         }
     }
 
+    /// Undoes the levels above this one, but no level up to the base.
+    fn return_to(&mut self, level: usize) -> Result<(), AllocError>
+        requires consistent { IsConsistent self.old }
+        ensures consistent { OnOk result (IsConsistent self.new) }
+        ensures same { OnOk result (IsSameProblem self.old self.new) }
+        ensures learnt { OnOk result (learnt_count_of self.new ≡ learnt_count_of self.old) }
+        ensures undone { OnOk result (IsUndone (trail_of self.old) (trail_of self.new) (max level (base_of self.old))) }
+    {
+        self.trail.undo_until(level.max(self.base));
+        self.propagator.cut(&self.trail)?;
+        let left = self.trail.len();
+        self.queue.cut(left);
+        self.kept = self.kept.min(left);
+        Ok(())
+    }
+
+    /// Restarts the search, if that is due. It keeps the levels below the first decision that would now come after the
+    /// next one.
+    fn restart<D: DependencyProvider>(&mut self, provider: &D) -> Result<(), Interrupted<D::Cancel>>
+        requires consistent { IsConsistent self.old }
+        ensures consistent { OnOk result (IsConsistent self.new) }
+        ensures same { OnOk result (IsSameProblem self.old self.new) }
+        ensures learnt { OnOk result (learnt_count_of self.new ≡ learnt_count_of self.old) }
+        ensures refusal { IfErr result (IsInterruption (D.may_cancel provider.now)) }
+    {
+        if !is_due(self.learnt, self.trail.level().saturating_sub(self.base)) {
+            return Ok(());
+        }
+        let step = next_step(
+            provider,
+            &mut self.trail,
+            &mut self.queue,
+            &self.table,
+            self.requirements.as_slice(),
+            &mut self.propagator,
+        )?;
+        match step {
+            Step::Decide(choice) => {
+                let level = kept_level(
+                    &self.trail,
+                    &self.table,
+                    self.requirements.as_slice(),
+                    &self.queue,
+                    self.held,
+                    choice,
+                );
+                self.return_to(level)?;
+                Ok(())
+            }
+            Step::Conflict(_) => Ok(()),
+            Step::Finished => Ok(()),
+        }
+    }
+
     /// Searches for values, or for given clauses that no values make true together.
     ///
     /// During a turn the held entries of the trail stay, and the search is refused if a clause is false by them and the
@@ -576,7 +678,7 @@ impl ClauseSearch {
                 Some(number) => {
                     match self.learn(alloc, number, learnt_limit, clause_limit)? {
                         Some(outcome) => return Ok(outcome),
-                        None => (),
+                        None => self.restart(provider)?,
                     }
                 }
             }

@@ -13,6 +13,7 @@ mod owners;
 mod places;
 mod problem;
 mod propagator;
+mod restarts;
 mod rounds;
 #[cfg(test)]
 mod scanning;

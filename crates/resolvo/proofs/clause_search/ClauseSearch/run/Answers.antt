@@ -63,12 +63,15 @@ returns-in-Some-2 g c =
 
 pub conflicts-preserved : goal.conflicts-preserved
 conflicts-preserved g c =
-    let step = c.in_ok-outcome-in-Some.ensures in (
-      step.consistent,
+    let step = c.in_ok-outcome-in-Some.ensures in
+    let jump = c.in_ok-restart-in-None-2.ensures in (
+      jump.consistent,
       problem-trans _ _ _
+          (problem-trans _ _ _
           (problem-descended _ c.conflicts.self c.descend.new.trail c.descend.new.propagator c.descend.new.queue _ c.conflicts.invariant.0
           c.conflicts.invariant.1
-          c.in_ok-descend.ensures.size c.in_ok-descend.ensures.kept c.in_ok-descend.ensures.assumed) step.same,
+          c.in_ok-descend.ensures.size c.in_ok-descend.ensures.kept c.in_ok-descend.ensures.assumed) step.same)
+          jump.same,
     )
 
 pub invariant_of-self : goal.invariant_of-self
@@ -118,4 +121,16 @@ returns-in_err-outcome-in-Some g c =
       kept = IfOk-from_err c.from_residual-in_err-outcome-in-Some.result _ c.from_residual-in_err-outcome-in-Some.ensures.0;
       turn = IfOk-from_err c.from_residual-in_err-outcome-in-Some.result _ c.from_residual-in_err-outcome-in-Some.ensures.0;
       refusal = IfErr-of c.from_residual-in_err-outcome-in-Some.result _ _ c.from_residual-in_err-outcome-in-Some.ensures.1 (shortage_at_limit _ _ c.in_err-outcome-in-Some.ensures.ids);
+    }
+
+pub returns-in_err-restart-in-None-2 : goal.returns-in_err-restart-in-None-2
+returns-in_err-restart-in-None-2 g c =
+    record {
+      outcome = IfOk-from_err c.from_residual-in_err-restart-in-None-2.result _ c.from_residual-in_err-restart-in-None-2.ensures.0;
+      consistent = IfOk-from_err c.from_residual-in_err-restart-in-None-2.result _ c.from_residual-in_err-restart-in-None-2.ensures.0;
+      loaded = IfOk-from_err c.from_residual-in_err-restart-in-None-2.result _ c.from_residual-in_err-restart-in-None-2.ensures.0;
+      variables = IfOk-from_err c.from_residual-in_err-restart-in-None-2.result _ c.from_residual-in_err-restart-in-None-2.ensures.0;
+      kept = IfOk-from_err c.from_residual-in_err-restart-in-None-2.result _ c.from_residual-in_err-restart-in-None-2.ensures.0;
+      turn = IfOk-from_err c.from_residual-in_err-restart-in-None-2.result _ c.from_residual-in_err-restart-in-None-2.ensures.0;
+      refusal = IfErr-stop c.from_residual-in_err-restart-in-None-2.result (g.D.DependencyProvider.may_cancel c.args.provider.now) _ _ c.from_residual-in_err-restart-in-None-2.ensures.1 c.in_err-restart-in-None-2.ensures.refusal;
     }
