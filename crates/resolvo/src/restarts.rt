@@ -93,3 +93,6 @@ pub fn kept_level(
     }
     trail.level()
 }
+
+#[cfg(test)]
+mod tests;
