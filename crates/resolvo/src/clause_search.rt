@@ -113,6 +113,7 @@ pub enum Step {
 /// Propagates, and returns what comes next.
 ///
 /// The provider may stop the search before the propagation.
+#[inline(always)]
 pub fn next_step<D: DependencyProvider>(
     provider: &D,
     trail: &mut Trail,
