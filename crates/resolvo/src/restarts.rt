@@ -7,11 +7,11 @@ use resolver_clause_store::{
     Choice, Clauses, DecideQueue, Literal, Reason, StoredRequirement, Trail, Variable, clause,
 };
 
-/// Returns whether a restart is due: after each second learnt clause, in a search of at most five levels.
+/// Returns whether a restart is due: after each second learnt clause, in a search of at most four levels.
 ///
 /// What a restart undoes has to be decided again, so it does not pay in a search of many levels.
 pub fn is_due(learnt: usize, levels: usize) -> bool {
-    learnt % 2 == 0 && levels <= 5
+    learnt % 2 == 0 && levels <= 4
 }
 
 /// What decides which of two requirements comes first, before their candidates are counted.

@@ -330,6 +330,7 @@ fn apply_pending(
 }
 
 /// Examines pending clauses until none is left or one is false, and returns the number of that one.
+#[inline(always)]
 pub fn apply_all_pending(
     trail: &mut Trail,
     table: &Clauses,

@@ -11,9 +11,9 @@ fn each_second_learnt_clause_makes_a_restart_due(rt: HostRuntime) -> Result<(), 
 }
 
 #[test]
-fn no_restart_is_due_above_five_levels(rt: HostRuntime) -> Result<(), Fail> {
-    assert!(rt; is_due(2, 5));
-    assert!(rt; !is_due(2, 6));
+fn no_restart_is_due_above_four_levels(rt: HostRuntime) -> Result<(), Fail> {
+    assert!(rt; is_due(2, 4));
+    assert!(rt; !is_due(2, 5));
     Ok(())
 }
 
