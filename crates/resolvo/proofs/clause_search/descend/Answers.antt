@@ -2,7 +2,6 @@ use Rattle.std.proofs.Common.{ℕ, arith, length, refl, subst, sym, ◌<◌, ◌
 use Rattle.std.proofs.lemmas.List.Elements.{All-contains}
 use Rattle.resolver_clause_store.specs.declared.StoredRequirement.{StoredRequirement}
 use Rattle.resolver_clause_store.specs.Formula.{AreBelow}
-use Rattle.resolver_clause_store.proofs.KeptLemmas.{keeps_all}
 use Rattle.resolver_clause_store.proofs.QueueLemmas.{queued-longer}
 use Rattle.resolvo.proofs.LoadLemmas.{keeps_more}
 use Rattle.resolvo.proofs.TurnLemmas.{none-trans}

@@ -1,5 +1,4 @@
 use Rattle.std.proofs.Common.{refl}
-use Rattle.std.proofs.lemmas.Result.{IfOk-from_err}
 use Rattle.resolvo.proofs.LoadLemmas.{problem-descended, problem-trans}
 use Rattle.resolvo.proofs.TurnLemmas.{consistent-descended}
 use Rattle.resolvo.proofs.WatchedLemmas.{in_lists, owned-either}
