@@ -1,5 +1,5 @@
 -- What comes next in a search.
-use Rattle.std.specs.Prelude.{ℕ, All, List}
+use Rattle.std.specs.Prelude.{All, List}
 use Rattle.resolver_clause_store.specs.declared.Literal.{Literal}
 use Rattle.resolver_clause_store.specs.declared.StoredRequirement.{StoredRequirement}
 use Rattle.resolver_clause_store.specs.declared.Trail.{Trail}

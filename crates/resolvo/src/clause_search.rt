@@ -20,13 +20,14 @@ ghost use Rattle.resolvo.specs.Propagation.{AreChosen, AssumesNone, IsConflict, 
 ghost use Rattle.resolver_clause_store.specs.Settled.{AllSettled};
 ghost use Rattle.resolver_clause_store.specs.WatchesView.{pairs_of};
 ghost use Rattle.resolvo.specs.Propagators.{IsPropagator};
+ghost use Rattle.resolvo.specs.Returning.{IsBelowHighest, TakesBack};
 ghost use Rattle.resolvo.specs.Steps.{StepIs};
 ghost use Rattle.resolvo.specs.declared.propagator.Propagator.{Propagator};
 ghost use Rattle.resolvo.specs.WatchedClauses.{AreInLists, AreOwned};
 ghost use Rattle.resolver_clause_store.specs.Queues.{IsQueued};
 ghost use Rattle.resolvo.specs.Resolvents.{IsLearnt, level_in};
 
-use crate::analyze::{Analysis, BlankMarks, Learnt, analyze, asserted_level};
+use crate::analyze::{Analysis, BlankMarks, Learnt, analyze, asserted_level, highest_level};
 use crate::clause_state::{State, examine};
 use crate::contradiction::core;
 use crate::places::Places;
@@ -194,17 +195,18 @@ pub fn descend<D: DependencyProvider>(
     }
 }
 
-/// Returns the level to backtrack to when a clause is added: the base if the clause is false, and the highest level
-/// otherwise.
+/// Returns the level to go back to when a clause is added: if it is false, the one below the highest level of its
+/// literals, but no level below the base.
 fn level_for(trail: &Trail, literals: &[Literal], base: usize) -> usize
     requires { IsBelow (variable_count trail.now) literals.now }
-    ensures falsified { IsFalsified trail.now literals.now → result ≡ base }
+    ensures falsified { IsFalsified trail.now literals.now → IsBelowHighest trail.now literals.now base result }
     ensures low { base ≤ result }
 {
-    match examine(trail, literals) {
-        State::Falsified => base,
-        State::Satisfied | State::Unit(_) | State::Open => trail.level().max(base),
-    }
+    let level = match examine(trail, literals) {
+        State::Falsified => highest_level(trail, literals).saturating_sub(1),
+        State::Satisfied | State::Unit(_) | State::Open => trail.level(),
+    };
+    level.max(base)
 }
 
 /// Returns the places in a requirement's clause after the candidates of each version set, none if it is no union.
@@ -359,8 +361,8 @@ impl ClauseSearch {
 
     /// Appends a given clause.
     ///
-    /// If the clause is false, the levels above the base are undone. If it is still false then, the next run finds
-    /// that.
+    /// If the clause is false, the highest level of its literals is undone, unless it is the base or a lower one. The levels below
+    /// stay. If the clause is still false then, the next run finds that.
     fn load_clause(&mut self, literals: &[Literal]) -> Result<(), AllocError>
         requires consistent { IsConsistent self.old }
         requires below { IsBelow (variable_count (trail_of self.old)) literals.now }
@@ -369,7 +371,7 @@ impl ClauseSearch {
             IsLoaded given numbers self.old → IsLoaded (given ++ literals.now ∷ []) numbers self.new) }
         ensures same { OnOk result (IsSameSearch self.old self.new) }
         ensures count { OnOk result (length self.new.places ≡ length self.old.places + 1) }
-        ensures undone { OnOk result (IsFalsified (trail_of self.old) literals.now → IsUndone (trail_of self.old) (trail_of self.new) (base_of self.old)) }
+        ensures undone { OnOk result (IsFalsified (trail_of self.old) literals.now → TakesBack (trail_of self.old) (trail_of self.new) literals.now (base_of self.old)) }
     {
         let number = self.places.len();
         let place = self.table.len();

@@ -751,11 +751,15 @@ fn places_are_kept_as_far_as_the_trail_stays(rt: HostRuntime) -> Result<(), Fail
 }
 
 #[test]
-fn a_clause_that_is_false_when_it_comes_sends_the_trail_to_its_start(
+fn a_clause_that_is_false_when_it_comes_takes_its_highest_level_back(
     rt: HostRuntime,
 ) -> Result<(), Fail> {
-    let clauses: [&[i32]; 3] = [&[1, 2], &[3, 4], &[-1, -3]];
-    assert!(rt; finds(rt.alloc(), &clauses, &Task::Keep((2, 0, 0, 0)))?);
+    let of_both: [&[i32]; 3] = [&[1, 2], &[3, 4], &[-1, -3]];
+    assert!(rt; finds(rt.alloc(), &of_both, &Task::Keep((2, 1, 1, 1)))?);
+    let of_the_second: [&[i32]; 3] = [&[1, 2], &[3, 4], &[-3]];
+    assert!(rt; finds(rt.alloc(), &of_the_second, &Task::Keep((2, 1, 1, 1)))?);
+    let of_the_first: [&[i32]; 3] = [&[1, 2], &[3, 4], &[-1]];
+    assert!(rt; finds(rt.alloc(), &of_the_first, &Task::Keep((2, 0, 0, 0)))?);
     Ok(())
 }
 

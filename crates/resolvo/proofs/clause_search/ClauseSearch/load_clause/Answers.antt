@@ -1,5 +1,5 @@
-use Rattle.std.proofs.Common.{rules, refl, ap, subst, ◌∙◌, ◌≡◌, length, min, ℕ}
-use Rattle.resolver_clause_store.specs.TrailView.{IsUndone, length_of}
+use Rattle.std.proofs.Common.{rules, refl, ap, ◌∙◌, ◌≡◌, length, min}
+use Rattle.resolver_clause_store.specs.TrailView.{length_of}
 use Rattle.resolver_clause_store.proofs.KeptLemmas.{keeps_undone}
 use Rattle.resolvo.specs.Propagators.{IsPropagator}
 use Rattle.resolvo.proofs.AttachingLemmas.{lower-undone}
@@ -36,8 +36,7 @@ returns-clause-same c = same-undone c.args.self.now _ _ c.requires.consistent c.
 
 pub returns-clause-undone : goal.returns-clause-undone
 returns-clause-undone c = λ falsified.
-    let Undone : ℕ → Type 0 = λ level. IsUndone c.args.self.now.trail c.undo_until.new.self level in
-    subst Undone (c.level_for-level.ensures.falsified falsified) c.undo_until.ensures
+    record { level = c.level_for-level.result; below = c.level_for-level.ensures.falsified falsified; undone = c.undo_until.ensures }
 
 pub attach-requires-clause-below : goal.attach-requires-clause-below
 attach-requires-clause-below c = c.requires.below
