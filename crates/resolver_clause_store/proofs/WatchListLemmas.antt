@@ -587,19 +587,30 @@ contains-same table number other literal copy named is contains =
 pub added-inside : (pairs new : List WatchedPair) (pair : WatchedPair) (number : ℕ) → new ≡ pairs ++ pair ∷ [] → number ≡ length pairs → number < length new
 added-inside pairs new pair number added last = omega (arith, last, ap (λ (ps : List WatchedPair). length ps) added, length-append pairs (pair ∷ []))
 
+-- the watch with another start
+abbrev pub with_start : Watch → ℕ → Watch
+with_start watch start =
+    record {
+      number = watch.number;
+      blocker_variable = watch.blocker_variable;
+      is_blocker_positive = watch.is_blocker_positive;
+      is_binary = watch.is_binary;
+      start = start;
+    }
+
 -- a move, step by step: the watch that was read, pushed, removed and written
-pub record IsMove (old mid new : List (List Watch)) (before : List WatchedPair) (from to : Literal) (place : ℕ) (blocker : Literal) (read : Watch)
+pub record IsMove (old mid new : List (List Watch)) (before : List WatchedPair) (from to : Literal) (place : ℕ) (blocker : Literal) (start : ℕ) (read : Watch)
     (pair : WatchedPair) : Type 0 where
   pub differ : from ≢ to
   pub value : slice_get (list_at old (list_number from)) place ≡ Some read
   pub inside : read.number < length before
   pub watching : IsWatching before read.number from
-  pub pushed : PutsList old mid (list_number to) (list_at old (list_number to) ++ with_blocker read blocker ∷ [])
+  pub pushed : PutsList old mid (list_number to) (list_at old (list_number to) ++ with_start (with_blocker read blocker) start ∷ [])
   pub taken : PutsList mid new (list_number from) (swap_remove (list_at mid (list_number from)) place read)
   pub pair_is : pair ≡ replaced (pair_at before read.number) from to
 
-module _ (old mid new : List (List Watch)) (before : List WatchedPair) (from to : Literal) (place : ℕ) (blocker : Literal) (read : Watch)
-    (pair : WatchedPair) (m : IsMove old mid new before from to place blocker read pair) where
+module _ (old mid new : List (List Watch)) (before : List WatchedPair) (from to : Literal) (place : ℕ) (blocker : Literal) (start : ℕ) (read : Watch)
+    (pair : WatchedPair) (m : IsMove old mid new before from to place blocker start read pair) where
   at' : place < length (list_at old (list_number from))
   at' = slice_get_within (list_at old (list_number from)) place read m.value
 
@@ -625,9 +636,9 @@ module _ (old mid new : List (List Watch)) (before : List WatchedPair) (from to 
   pub move-fit : (table : List (List Literal)) (watch : Watch) → slice_get (list_at old (list_number from)) place ≡ Some watch →
       Contains (clause_at table watch.number) blocker → FitClauses table old → FitClauses table new
   move-fit table watch is contains has =
-      fit-move table old mid new from to place read _ m.differ m.pushed m.taken at'
-      (fits-with table read blocker (fit-at table old (list_number from) place read has m.value)
-      (subst (λ n. Contains (clause_at table n) blocker) (sym (ap (λ (w : Watch). w.number) (found watch is))) contains)) has
+      let fits = fits-with table read blocker (fit-at table old (list_number from) place read has m.value)
+      (subst (λ n. Contains (clause_at table n) blocker) (sym (ap (λ (w : Watch). w.number) (found watch is))) contains) in
+      fit-move table old mid new from to place read _ m.differ m.pushed m.taken at' (record { own = fits.own; two = fits.two }) has
 
 pub kept-same : (old new : List WatchedPair) → new ≡ old → (number : ℕ) → number < length old → pair_at new number ≡ pair_at old number
 kept-same old new same number inside = ap (λ (ps : List WatchedPair). pair_at ps number) same

@@ -18,7 +18,7 @@ list_at lists list = slice_index_or lists list []
 
 -- stands for the watch behind the end of a list
 abbrev pub no_watch : Watch
-no_watch = record { number = 0; blocker_variable = 0; is_blocker_positive = false; is_binary = false }
+no_watch = record { number = 0; blocker_variable = 0; is_blocker_positive = false; is_binary = false; start = 0 }
 
 -- the watch at a place of a list
 abbrev pub watch_at : List Watch → ℕ → Watch
@@ -31,7 +31,13 @@ blocker_of watch = record { variable = watch.blocker_variable; positive = watch.
 -- the watch with another blocker
 abbrev pub with_blocker : Watch → Literal → Watch
 with_blocker watch blocker =
-    record { number = watch.number; blocker_variable = blocker.variable; is_blocker_positive = blocker.positive; is_binary = watch.is_binary }
+    record {
+      number = watch.number;
+      blocker_variable = blocker.variable;
+      is_blocker_positive = blocker.positive;
+      is_binary = watch.is_binary;
+      start = watch.start;
+    }
 
 -- a clause that watches nothing
 abbrev pub unwatched : WatchedPair

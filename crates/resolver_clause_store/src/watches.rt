@@ -18,7 +18,7 @@ use std::alloc::{AllocError, Global};
 
 /// A clause in the list of a literal that it watches.
 ///
-/// The parts of the blocker stand side by side, so a watch takes twelve bytes.
+/// The parts of the blocker stand side by side, and `start` takes two bytes, so a watch takes twelve.
 #[derive(Clone, Copy, PartialEq, Eq)]
 pub struct Watch {
     /// The clause's number.
@@ -29,6 +29,8 @@ pub struct Watch {
     pub is_blocker_positive: bool,
     /// Whether the clause is known to have two literals.
     pub is_binary: bool,
+    /// The place in the clause from which on another literal to watch is looked for first. Any place is right.
+    pub start: u16,
 }
 
 impl Watch {
@@ -44,14 +46,21 @@ impl Watch {
 }
 
 /// Returns the watch of a clause with this number.
-fn watch_of(number: u32, blocker: Literal, is_binary: bool) -> Watch
-    ensures { result ≡ record { number = number; blocker_variable = blocker.variable; is_blocker_positive = blocker.positive; is_binary = is_binary } }
+fn watch_of(number: u32, blocker: Literal, is_binary: bool, start: u16) -> Watch
+    ensures { result ≡ record {
+      number = number;
+      blocker_variable = blocker.variable;
+      is_blocker_positive = blocker.positive;
+      is_binary = is_binary;
+      start = start;
+    } }
 {
     Watch {
         number,
         blocker_variable: blocker.variable,
         is_blocker_positive: blocker.positive,
         is_binary,
+        start,
     }
 }
 
@@ -248,13 +257,13 @@ impl Watches {
             first: Some(copied(&first)),
             second: None,
         };
-        let watch = watch_of(number, copied(&second), is_binary);
+        let watch = watch_of(number, copied(&second), is_binary, 0);
         self.attach(watch, one, copied(&first))?;
         let two = WatchedPair {
             first: Some(copied(&first)),
             second: Some(copied(&second)),
         };
-        self.attach(watch_of(number, first, is_binary), two, second)?;
+        self.attach(watch_of(number, first, is_binary, 0), two, second)?;
         Ok(())
     }
 
@@ -314,11 +323,12 @@ impl Watches {
         ensures fit { (table : List (List Literal)) → Contains (clause_at table placed.now.watch.number) blocker →
             FitClauses table (lists_of self.old) → FitClauses table (lists_of self.new) }
     {
-        let watch = watch_of(placed.watch.number, blocker, placed.watch.is_binary);
+        let watch = placed.watch;
+        let watch = watch_of(watch.number, blocker, watch.is_binary, watch.start);
         self.lists.set(list_number(literal), placed.place, watch);
     }
 
-    /// Makes a clause of a literal's list watch another literal instead.
+    /// Makes a clause of a literal's list watch another literal instead, with a start for the next search.
     ///
     /// The last clause of the list moves to its place.
     pub fn move_watch(
@@ -327,6 +337,7 @@ impl Watches {
         placed: &PlacedWatch,
         to: Literal,
         blocker: Literal,
+        start: u16,
     ) -> Result<(), AllocError>
         requires from { HasList self.old from }
         requires to { HasList self.old to }
@@ -339,10 +350,11 @@ impl Watches {
             ((table : List (List Literal)) → Contains (clause_at table placed.now.watch.number) blocker →
             FitClauses table (lists_of self.old) → FitClauses table (lists_of self.new)) }
     {
-        let moved = watch_of(placed.watch.number, blocker, placed.watch.is_binary);
+        let watch = placed.watch;
+        let moved = watch_of(watch.number, blocker, watch.is_binary, start);
         self.lists.push(list_number(copied(&to)), moved)?;
         self.lists.take(list_number(copied(&from)), placed.place);
-        self.pairs.replace(placed.watch.number as usize, from, to);
+        self.pairs.replace(watch.number as usize, from, to);
         Ok(())
     }
 }

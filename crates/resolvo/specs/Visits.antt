@@ -1,5 +1,5 @@
 -- The clauses that watch a literal which has become false.
-use Rattle.std.specs.Prelude.{◌≡◌, ◌≢◌, ℕ, ◌-◌, ◌<◌, ◌≤◌, false, true, Some, List, length, Contains, slice_get}
+use Rattle.std.specs.Prelude.{◌≡◌, ◌≢◌, ℕ, ◌-◌, ◌<◌, ◌≤◌, false, true, Some, List, length, Contains, slice_get, slice_index_or}
 use Rattle.std.specs.Bool.{beq}
 use Rattle.resolver_clause_store.specs.declared.Literal.{Literal}
 use Rattle.resolver_clause_store.specs.declared.Slot.{Slot}
@@ -68,6 +68,11 @@ pub record Replaces (trail : Trail) (clause : List Literal) (other to : Literal)
   pub inside : Contains clause to
   pub differ : other ≢ to
   pub not_false : literal_value trail to ≢ Some false
+
+-- such a literal stands at this place of the clause
+pub record ReplacesAt (trail : Trail) (clause : List Literal) (other : Literal) (place : ℕ) : Type 0 where
+  pub inside : place < length clause
+  pub replaces : (d : Literal) → Replaces trail clause other (slice_index_or clause place d)
 
 -- the clause watches these two literals, which differ
 pub record IsPaired (pairs : List WatchedPair) (number : ℕ) (one other : Literal) : Type 0 where

@@ -9,7 +9,7 @@ ghost use Rattle.resolver_clause_store.specs.declared.Watch.{Watch};
 ghost use Rattle.resolvo.specs.Propagation.{Extends, IsConflict, IsJustified, IsUnit};
 ghost use Rattle.resolver_clause_store.specs.Settled.{AllSettled};
 ghost use Rattle.resolvo.specs.Propagators.{IsAttached, IsPropagator};
-ghost use Rattle.resolvo.specs.Visits.{FailsAt, IsPaired, IsPlaced, IsVisiting, WatchOutcomeIs, Replaces, StandsAt};
+ghost use Rattle.resolvo.specs.Visits.{FailsAt, IsPaired, IsPlaced, IsVisiting, WatchOutcomeIs, ReplacesAt, StandsAt};
 ghost use Rattle.resolvo.specs.WatchedClauses.{AreOwned};
 ghost use Rattle.resolver_clause_store.specs.Watches.{IsWatching};
 ghost use Rattle.resolver_clause_store.specs.WatchesView.{HasList, pairs_of};
@@ -45,20 +45,38 @@ pub enum WatchOutcome {
     Conflict(usize),
 }
 
-/// Returns the first literal of the clause that is not false, other than `other`.
-fn first_replacement(trail: &Trail, clause: &[Literal], other: &Literal) -> Option<Literal>
-    requires { IsBelow (variable_count trail.now) clause.now }
-    ensures { MatchOption result (IsUnit trail.now other.now clause.now) (Replaces trail.now clause.now other.now) }
+/// Returns the place of the first of these literals that is not false, other than `other`.
+fn first_replacement(trail: &Trail, literals: &[Literal], other: &Literal) -> Option<usize>
+    requires { IsBelow (variable_count trail.now) literals.now }
+    ensures { MatchOption result (IsUnit trail.now other.now literals.now) (ReplacesAt trail.now literals.now other.now) }
 {
-    'literals: for place in 0..clause.len() {
-        if !trail.is_false(clause[place]) && clause[place] != *other {
-            return Some(clause[place]);
+    'literals: for place in 0..literals.len() {
+        if !trail.is_false(literals[place]) && literals[place] != *other {
+            return Some(place);
         }
     }
     None
 }
 
-/// Returns a literal of the clause that is not false, other than `other`.
+/// Returns the place of a literal that is not false, other than `other`: the first one from `start` on, or before that.
+fn next_replacement(
+    trail: &Trail,
+    literals: &[Literal],
+    other: &Literal,
+    start: usize,
+) -> Option<usize>
+    requires { IsBelow (variable_count trail.now) literals.now }
+    ensures { MatchOption result (IsUnit trail.now other.now literals.now) (ReplacesAt trail.now literals.now other.now) }
+{
+    let start = start.min(literals.len());
+    let (before, after) = literals.split_at(start);
+    match first_replacement(trail, after, other) {
+        Some(place) => Some(start + place),
+        None => first_replacement(trail, before, other),
+    }
+}
+
+/// Returns the place of a literal of the clause that is not false, other than `other`. It looks from `start` on first.
 ///
 /// The clause contains `other` and a literal that is false. If it has only two, they need not be read.
 fn replacement(
@@ -66,18 +84,27 @@ fn replacement(
     clause: &[Literal],
     falsified: &Literal,
     other: &Literal,
-) -> Option<Literal>
+    start: usize,
+) -> Option<usize>
     requires below { IsBelow (variable_count trail.now) clause.now }
     requires falsified { literal_value trail.now falsified.now ≡ Some false }
     requires own { Contains clause.now falsified.now }
     requires other { Contains clause.now other.now }
     requires differ { falsified.now ≢ other.now }
-    ensures { MatchOption result (IsUnit trail.now other.now clause.now) (Replaces trail.now clause.now other.now) }
+    ensures { MatchOption result (IsUnit trail.now other.now clause.now) (ReplacesAt trail.now clause.now other.now) }
 {
     if clause.len() == 2 {
         return None;
     }
-    first_replacement(trail, clause, other)
+    next_replacement(trail, clause, other, start)
+}
+
+/// Returns a place as a watch stores it, or 0 if it is too large.
+fn stored_start(place: usize) -> u16 {
+    match u16::try_from(place) {
+        Ok(start) => start,
+        Err(_) => 0,
+    }
 }
 
 /// Returns whether the other literal of a clause of two is known to be forced, by its value.
@@ -239,11 +266,23 @@ impl Propagator {
         ensures open_ones { open_count trail.new ≤ open_count trail.old }
         ensures total { open_count trail.new + length_of trail.new ≡ open_count trail.old + length_of trail.old }
     {
-        let literals = clause(table, watcher.placed.watch.number as usize);
-        match replacement(trail, literals, &falsified.literal, &watcher.other) {
-            Some(to) => {
-                self.watches
-                    .move_watch(falsified.literal, &watcher.placed, to, watcher.other)?;
+        let watch = watcher.placed.watch;
+        let literals = clause(table, watch.number as usize);
+        match replacement(
+            trail,
+            literals,
+            &falsified.literal,
+            &watcher.other,
+            usize::from(watch.start),
+        ) {
+            Some(place) => {
+                self.watches.move_watch(
+                    falsified.literal,
+                    &watcher.placed,
+                    literals[place],
+                    watcher.other,
+                    stored_start(place),
+                )?;
                 Ok(WatchOutcome::Next(watcher.placed.place))
             }
             None => {

@@ -14,7 +14,7 @@ replace-requires c = watching-number _ _ c.args.from (listed-watching _ _ _ _ _ 
 -- the steps that were taken
 moves : (c : goal.After-replace) →
     IsMove (lists_in c.args.self.now.lists) (lists_in c.push.new.self) (lists_in c.take.new.self) c.args.self.now.pairs c.args.from c.args.to
-    c.args.placed.now.place c.args.blocker c.args.placed.now.watch (replaced (pair_at c.args.self.now.pairs c.args.placed.now.watch.number) c.args.from c.args.to)
+    c.args.placed.now.place c.args.blocker c.args.start c.args.placed.now.watch (replaced (pair_at c.args.self.now.pairs c.args.placed.now.watch.number) c.args.from c.args.to)
 moves c =
     let from_list = c.list_number-2.ensures ∙ ap (λ (l : Literal). list_number l) c.copied-2.ensures in
     let to_list = c.list_number.ensures ∙ ap (λ (l : Literal). list_number l) c.copied.ensures in
@@ -29,10 +29,10 @@ moves c =
     }
 
 pub invariant_of-self-2 : goal.invariant_of-self-2
-invariant_of-self-2 c = record { watched = rw c.replace.ensures (move-watched _ _ _ _ _ _ _ _ _ _ (moves c) c.args.self.now.watched) }
+invariant_of-self-2 c = record { watched = rw c.replace.ensures (move-watched _ _ _ _ _ _ _ _ _ _ _ (moves c) c.args.self.now.watched) }
 
 pub returns-clause-moved : goal.returns-clause-moved
-returns-clause-moved c = rw c.replace.ensures (move-moves _ _ _ _ _ _ _ _ _ _ (moves c.before) _ c.requires.placed)
+returns-clause-moved c = rw c.replace.ensures (move-moves _ _ _ _ _ _ _ _ _ _ _ (moves c.before) _ c.requires.placed)
 
 pub returns-clause-fit : goal.returns-clause-fit
-returns-clause-fit c = λ table contains has. move-fit _ _ _ _ _ _ _ _ _ _ (moves c.before) table _ c.requires.placed contains has
+returns-clause-fit c = λ table contains has. move-fit _ _ _ _ _ _ _ _ _ _ _ (moves c.before) table _ c.requires.placed contains has
