@@ -9,6 +9,7 @@ pub mod ReturningLemmas
 pub mod StoredSourceLemmas
 pub mod SourceLemmas
 pub mod MarkLemmas
+pub mod ReplacementLemmas
 pub mod ResolutionLemmas
 pub mod NegationLemmas
 pub mod ListedLemmas

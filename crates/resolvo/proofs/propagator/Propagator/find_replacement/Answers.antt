@@ -3,6 +3,7 @@ use Rattle.std.proofs.lemmas.Option.{slice_get_within}
 use Rattle.resolver_clause_store.specs.TrailView.{literal_value}
 use Rattle.resolver_clause_store.specs.declared.Literal.{Literal}
 use Rattle.resolvo.proofs.VisitLemmas.{moves, own-other, extends-same}
+use Rattle.resolvo.proofs.ReplacementLemmas.{replaces-at}
 use Rattle.resolvo.proofs.TwoLiteralLemmas.{false-now, own-false}
 use Rattle.resolver_clause_store.proofs.ResultLemmas.{refused-any}
 use Rattle.resolvo.proofs.WatchedLemmas.{owned-of, owned-same}
@@ -16,7 +17,7 @@ returns-in_ok-move_watch-in-Some c =
           let moved = c.in_ok-move_watch-in-Some.ensures in
           let own = own-other _ _ _ _ _ _ was c.requires.pair in
           moves _ _ _ _ _ _ _ _ _ c.requires.visiting moved.moved (moved.fit _ own was.watched.fit) c.requires.pair
-          (rw c.clause-literals.ensures at c.in-Some.ensures) (slice_get_within _ _ _ c.requires.stands);
+          (rw c.clause-literals.ensures at (replaces-at _ _ _ _ _ c.in-Some.ensures c.index-literals-place.is)) (slice_get_within _ _ _ c.requires.stands);
       refused = tt;
       justified = c.requires.justified;
       extends = extends-same c.args.trail.now;
@@ -79,4 +80,4 @@ replacement-requires-clause-below c = rw c.clause-literals.ensures (c.requires.v
 pub move_watch-requires-clause-differ : goal.move_watch-requires-clause-differ
 move_watch-requires-clause-differ c = λ same.
     let IsFalse : Literal → Type 0 = λ l. literal_value c.args.trail.now l ≡ Some false in
-    (rw c.clause-literals.ensures at c.in-Some.ensures).not_false (subst IsFalse same (false-now _ _ _ _ _ c.requires.visiting))
+    (rw c.clause-literals.ensures at (replaces-at _ _ _ _ _ c.in-Some.ensures c.index-literals-place.is)).not_false (subst IsFalse same (false-now _ _ _ _ _ c.requires.visiting))

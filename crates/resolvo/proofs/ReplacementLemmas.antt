@@ -1,0 +1,59 @@
+-- Another literal to watch, looked for in the two parts of a clause.
+use Rattle.std.proofs.Common.{◌≡◌, ℕ, ◌+◌, ◌<◌, ◌≤◌, ◌⊎◌, List, length, get_or, take, drop, Option, Some, None, false, arith, subst, sym}
+use Rattle.std.specs.Prelude.{All, MatchOption}
+use Rattle.std.proofs.lemmas.List.{get_or-drop, get_or-take, length-drop, length-take-le, take-append-drop}
+use Rattle.std.proofs.lemmas.List.Elements.{All-append, Contains-get_or}
+use Rattle.resolver_clause_store.specs.declared.Literal.{Literal}
+use Rattle.resolver_clause_store.specs.declared.Trail.{Trail}
+use Rattle.resolver_clause_store.specs.TrailView.{literal_value}
+use Rattle.resolvo.specs.Propagation.{IsUnit}
+use Rattle.resolvo.specs.Visits.{Replaces, ReplacesAt}
+
+-- the literal at such a place
+pub replaces-at : (trail : Trail) (clause : List Literal) (other to : Literal) (place : ℕ) → ReplacesAt trail clause other place →
+    to ≡ get_or clause place to → Replaces trail clause other to
+replaces-at trail clause other to place found is = subst (λ (l : Literal). Replaces trail clause other l) (sym is) (found.replaces to)
+
+module _ (trail : Trail) (clause : List Literal) (other : Literal) (start : ℕ) (within : start ≤ length clause) where
+  -- there is none in either part
+  pub unit-parts : IsUnit trail other (take start clause) → IsUnit trail other (drop start clause) → IsUnit trail other clause
+  unit-parts first last =
+      let P : Literal → Type 0 = λ one. (one ≡ other) ⊎ (literal_value trail one ≡ Some false) in
+      subst (λ (ls : List Literal). All P ls) (take-append-drop start clause) (All-append P (take start clause) (drop start clause) first last)
+
+  -- there is one from `start` on
+  pub replaces-after : (place : ℕ) → ReplacesAt trail (drop start clause) other place → ReplacesAt trail clause other (start + place)
+  replaces-after place found =
+      let inside : start + place < length clause = omega (arith, found.inside, length-drop start clause, within) in
+      record {
+        inside = inside;
+        replaces = λ d.
+            let here = get_or-drop start clause place d in
+            record {
+              inside = Contains-get_or clause (start + place) d inside;
+              differ = subst (λ (l : Literal). other ≡ l → ⊥) here (found.replaces d).differ;
+              not_false = subst (λ (l : Literal). literal_value trail l ≡ Some false → ⊥) here (found.replaces d).not_false;
+            };
+      }
+
+  -- there is one before
+  pub replaces-before : (place : ℕ) → ReplacesAt trail (take start clause) other place → ReplacesAt trail clause other place
+  replaces-before place found =
+      let less : place < start = omega (arith, found.inside, length-take-le start clause within) in
+      record {
+        inside = omega (arith, less, within);
+        replaces = λ d.
+            let here = get_or-take start clause place d less in
+            record {
+              inside = Contains-get_or clause place d (omega (arith, less, within));
+              differ = subst (λ (l : Literal). other ≡ l → ⊥) here (found.replaces d).differ;
+              not_false = subst (λ (l : Literal). literal_value trail l ≡ Some false → ⊥) here (found.replaces d).not_false;
+            };
+      }
+
+  -- there is one before, or none in either part
+  pub found-before : (found : Option ℕ) → IsUnit trail other (drop start clause) →
+      MatchOption found (IsUnit trail other (take start clause)) (ReplacesAt trail (take start clause) other) →
+      MatchOption found (IsUnit trail other clause) (ReplacesAt trail clause other)
+  found-before None last first = unit-parts first last
+  found-before (Some place) last at = replaces-before place at
