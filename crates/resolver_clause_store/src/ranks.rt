@@ -239,11 +239,24 @@ impl Ranks {
         Ok(())
     }
 
+    /// Returns whether a package is noted as touched.
+    #[inline(always)]
+    fn has_touched(&self, number: usize) -> bool {
+        match self.is_touched.get(number) {
+            Some(is_touched) => *is_touched,
+            None => false,
+        }
+    }
+
     /// Notes that a variable got or lost its value.
+    ///
+    /// Mostly its package is noted already, since variables of one package change one after another.
     pub fn touch(&mut self, variable: Variable) -> Result<(), AllocError> {
         match self.owner_of(variable).number() {
             Some(number) => {
-                self.touch_package(number)?;
+                if !self.has_touched(number) {
+                    self.touch_package(number)?;
+                }
                 Ok(())
             }
             None => Ok(()),
