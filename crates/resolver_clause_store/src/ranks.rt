@@ -251,6 +251,7 @@ impl Ranks {
     /// Notes that a variable got or lost its value.
     ///
     /// Mostly its package is noted already, since variables of one package change one after another.
+    #[inline(always)]
     pub fn touch(&mut self, variable: Variable) -> Result<(), AllocError> {
         match self.owner_of(variable).number() {
             Some(number) => {
