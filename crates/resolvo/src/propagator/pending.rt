@@ -1,6 +1,6 @@
 //! The clauses that are pending.
 
-ghost use Rattle.std.specs.Prelude.{◌≡◌, ◌-◌, ◌++◌, ◌∷◌, [], IfSome, MatchOption, OnErr, OnOk, length, take};
+ghost use Rattle.std.specs.Prelude.{◌≡◌, ◌≢◌, ◌+◌, ◌-◌, ◌++◌, ◌∷◌, [], MatchOption, OnErr, OnOk, length, take};
 ghost use Rattle.resolvo.specs.Attaching.{EndsWith};
 ghost use Rattle.resolvo.specs.PendingClauses.{last_in, numbers_in};
 
@@ -24,7 +24,7 @@ fn last_in(run: &PendingRun) -> usize
 
 /// Returns the run with this number, if the number comes next.
 fn longer(run: &PendingRun, number: u32) -> Option<PendingRun>
-    ensures { IfSome result (λ longer. numbers_in longer ≡ numbers_in run.now ++ number ∷ []) }
+    ensures { MatchOption result (last_in run.now + 1 ≢ number) (λ longer. numbers_in longer ≡ numbers_in run.now ++ number ∷ []) }
 {
     if last_in(run) + 1 != number as usize {
         return None;

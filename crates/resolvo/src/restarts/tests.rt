@@ -1,6 +1,11 @@
-//! When a restart is due, and what comes before what.
+//! When a restart is due, what comes before what, and which levels are kept.
+
+ghost use Rattle.std.specs.Prelude.{◌≡◌, []};
+ghost use Rattle.resolver_clause_store.specs.TrailView.{variable_count};
 
 use super::*;
+use resolver_clause_store::{Activity, Owner};
+use std::alloc::Global;
 use std::test::Fail;
 
 #[test]
@@ -34,5 +39,53 @@ fn the_root_comes_before_higher_scores(rt: HostRuntime) -> Result<(), Fail> {
     assert!(rt; root.is_before(&higher) && !higher.is_before(&root));
     assert!(rt; higher.is_before(&lower) && !lower.is_before(&higher));
     assert!(rt; !lower.is_before(&lower));
+    Ok(())
+}
+
+/// Returns the positive literal of a variable.
+fn positive(number: u32) -> Literal
+    ensures { result.variable ≡ number }
+{
+    Literal {
+        variable: Variable::new(number),
+        positive: true,
+    }
+}
+
+/// Decides the first of two candidates of different packages, and returns the level that is kept where the other comes next. The
+/// package of the candidate with this number gets a score.
+fn kept_after_one(
+    table: &mut Clauses,
+    queue: &mut DecideQueue,
+    trail: &mut Trail,
+    scored: u32,
+) -> Result<usize, Fail>
+    requires table { table.old ≡ [] }
+    requires trail { variable_count trail.old ≡ 0 }
+{
+    table.push(&[positive(0)])?;
+    table.push(&[positive(1)])?;
+    queue.learn_owners(&[Owner::package(0)?, Owner::package(1)?])?;
+    queue.learn(&[positive(scored)])?;
+    trail.grow(2)?;
+    trail.decide(positive(0), 0)?;
+    let next = Choice {
+        number: 1,
+        place: 0,
+    };
+    Ok(kept_level(trail, table, &[], queue, 0, next))
+}
+
+fn kept_with_score(alloc: Global, scored: u32) -> Result<usize, Fail> {
+    let mut table = Clauses::new(alloc);
+    let mut queue = DecideQueue::new(alloc, Activity::standard());
+    let mut trail = Trail::empty(alloc);
+    kept_after_one(&mut table, &mut queue, &mut trail, scored)
+}
+
+#[test]
+fn a_decision_that_would_come_later_now_is_taken_back(rt: HostRuntime) -> Result<(), Fail> {
+    assert!(rt; kept_with_score(rt.alloc(), 0)? == 1);
+    assert!(rt; kept_with_score(rt.alloc(), 1)? == 0);
     Ok(())
 }
