@@ -21,34 +21,33 @@ module _ (trail : Trail) (clause : List Literal) (other : Literal) (start : ℕ)
       let P : Literal → Type 0 = λ one. (one ≡ other) ⊎ (literal_value trail one ≡ Some false) in
       subst (λ (ls : List Literal). All P ls) (take-append-drop start clause) (All-append P (take start clause) (drop start clause) first last)
 
+  -- a literal of a part, at its place in the clause
+  replaces-here : (part : List Literal) (one d : Literal) (place : ℕ) → place < length clause → Replaces trail part other one → one ≡ get_or clause place d →
+      Replaces trail clause other (get_or clause place d)
+  replaces-here part one d place inside found here =
+      record {
+        inside = Contains-get_or clause place d inside;
+        differ = subst (λ (l : Literal). other ≡ l → ⊥) here found.differ;
+        not_false = subst (λ (l : Literal). literal_value trail l ≡ Some false → ⊥) here found.not_false;
+      }
+
   -- there is one from `start` on
   pub replaces-after : (place : ℕ) → ReplacesAt trail (drop start clause) other place → ReplacesAt trail clause other (start + place)
   replaces-after place found =
       let inside : start + place < length clause = omega (arith, found.inside, length-drop start clause, within) in
       record {
         inside = inside;
-        replaces = λ d.
-            let here = get_or-drop start clause place d in
-            record {
-              inside = Contains-get_or clause (start + place) d inside;
-              differ = subst (λ (l : Literal). other ≡ l → ⊥) here (found.replaces d).differ;
-              not_false = subst (λ (l : Literal). literal_value trail l ≡ Some false → ⊥) here (found.replaces d).not_false;
-            };
+        replaces = λ d. replaces-here (drop start clause) _ d (start + place) inside (found.replaces d) (get_or-drop start clause place d);
       }
 
   -- there is one before
   pub replaces-before : (place : ℕ) → ReplacesAt trail (take start clause) other place → ReplacesAt trail clause other place
   replaces-before place found =
       let less : place < start = omega (arith, found.inside, length-take-le start clause within) in
+      let inside : place < length clause = omega (arith, less, within) in
       record {
-        inside = omega (arith, less, within);
-        replaces = λ d.
-            let here = get_or-take start clause place d less in
-            record {
-              inside = Contains-get_or clause place d (omega (arith, less, within));
-              differ = subst (λ (l : Literal). other ≡ l → ⊥) here (found.replaces d).differ;
-              not_false = subst (λ (l : Literal). literal_value trail l ≡ Some false → ⊥) here (found.replaces d).not_false;
-            };
+        inside = inside;
+        replaces = λ d. replaces-here (take start clause) _ d place inside (found.replaces d) (get_or-take start clause place d less);
       }
 
   -- there is one before, or none in either part
