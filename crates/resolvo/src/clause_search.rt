@@ -6,7 +6,7 @@ ghost use Rattle.std.specs.declared.alloc.Global.{Global};
 ghost use Rattle.resolver_clause_store.specs.Formula.{AreBelow, IsBelow, clause_at};
 ghost use Rattle.resolver_clause_store.specs.Interruptions.{IsInterruption};
 ghost use Rattle.resolver_clause_store.specs.Outcomes.{IsFalsified, IsMet};
-ghost use Rattle.resolver_clause_store.specs.TrailView.{Gains, IsCut, IsUndone, KeepsPlaces, length_of, level_of, open_count, slot_of, variable_at};
+ghost use Rattle.resolver_clause_store.specs.TrailView.{Gains, IsCut, IsTop, IsUndone, KeepsPlaces, length_of, level_of, open_count, slot_of, variable_at};
 ghost use Rattle.resolver_clause_store.specs.TrailView.{variable_count};
 ghost use Rattle.resolver_clause_store.specs.UnionEnds.{ends_in};
 ghost use Rattle.resolver_clause_store.specs.declared.Exhausted.TheVariants.{Ids, Memory};
@@ -16,7 +16,7 @@ ghost use Rattle.resolver_clause_store.specs.declared.RequirementClause.{Require
 ghost use Rattle.resolver_clause_store.specs.declared.StoredRequirement.{StoredRequirement};
 ghost use Rattle.resolver_encoding.specs.Refusals.{IsStop};
 ghost use Rattle.resolver_clause_store.specs.Decisions.{IsChoice, IsFirst};
-ghost use Rattle.resolvo.specs.Propagation.{AreChosen, AssumesNone, IsConflict, IsJustified};
+ghost use Rattle.resolvo.specs.Propagation.{AreChosen, AssumesNone, Extends, IsConflict, IsJustified};
 ghost use Rattle.resolver_clause_store.specs.Settled.{AllSettled};
 ghost use Rattle.resolver_clause_store.specs.WatchesView.{pairs_of};
 ghost use Rattle.resolvo.specs.Propagators.{IsPropagator};
@@ -200,6 +200,7 @@ pub fn descend<D: DependencyProvider>(
 fn level_for(trail: &Trail, literals: &[Literal], base: usize) -> usize
     requires { IsBelow (variable_count trail.now) literals.now }
     ensures falsified { IsFalsified trail.now literals.now → IsBelowHighest trail.now literals.now base result }
+    ensures otherwise { (IsFalsified trail.now literals.now → ⊥) → IsTop trail.now result }
     ensures low { base ≤ result }
 {
     let level = match examine(trail, literals) {
@@ -372,6 +373,7 @@ impl ClauseSearch {
         ensures same { OnOk result (IsSameSearch self.old self.new) }
         ensures count { OnOk result (length self.new.places ≡ length self.old.places + 1) }
         ensures undone { OnOk result (IsFalsified (trail_of self.old) literals.now → TakesBack (trail_of self.old) (trail_of self.new) literals.now (base_of self.old)) }
+        ensures stays { OnOk result ((IsFalsified (trail_of self.old) literals.now → ⊥) → Extends (trail_of self.old) (trail_of self.new)) }
     {
         let number = self.places.len();
         let place = self.table.len();

@@ -1,4 +1,4 @@
-use Rattle.std.proofs.Common.{rules, refl, ap, ◌∙◌, ◌≡◌, length, min}
+use Rattle.std.proofs.Common.{rules, refl, ap, ◌∙◌, ◌≡◌, length, min, inl}
 use Rattle.resolver_clause_store.specs.TrailView.{length_of}
 use Rattle.resolver_clause_store.proofs.KeptLemmas.{keeps_undone}
 use Rattle.resolvo.specs.Propagators.{IsPropagator}
@@ -37,6 +37,13 @@ returns-clause-same c = same-undone c.args.self.now _ _ c.requires.consistent c.
 pub returns-clause-undone : goal.returns-clause-undone
 returns-clause-undone c = λ falsified.
     record { level = c.level_for-level.result; below = c.level_for-level.ensures.falsified falsified; undone = c.undo_until.ensures }
+
+pub returns-clause-stays : goal.returns-clause-stays
+returns-clause-stays c = λ other.
+    record {
+      kept = λ v s at. c.undo_until.ensures.kept v s at (c.level_for-level.ensures.otherwise other v s at);
+      only = λ v s at. inl (c.undo_until.ensures.stays v s at).0;
+    }
 
 pub attach-requires-clause-below : goal.attach-requires-clause-below
 attach-requires-clause-below c = c.requires.below
