@@ -531,7 +531,7 @@ impl Ranks {
     }
 
     /// Returns the place of the active requirement to look at next: one for which there is nothing to decide, or else
-    /// the first one by rank.
+    /// the first one by rank. A single one needs no rank.
     pub fn best(
         &mut self,
         active: &[u32],
@@ -545,6 +545,9 @@ impl Ranks {
         requires some { 0 < length active.now }
         ensures { IfOk result (λ place. place < length active.now) }
     {
+        if active.len() == 1 {
+            return Ok(0);
+        }
         self.tidy(active)?;
         self.spread(active)?;
         'changed: while let Some(requirement) = self.changed.pop() {

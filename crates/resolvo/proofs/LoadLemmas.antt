@@ -433,6 +433,14 @@ loaded-trail it trail propagator queue in_lists given numbers loaded = assumptio
 pub first-grown : (old new : Trail) (count variables : ℕ) → IsGrown old new variables → KeepsFirst old count new count
 first-grown old new count variables grown = first-after old new count (keeps_grown old new variables grown)
 
+pub problem-itself : (it : ClauseSearch) → IsSameProblem it it
+problem-itself it = record {
+  loaded = λ given numbers loaded. loaded;
+  variables = refl;
+  kept = λ base k. k;
+  turn = keeps-none it;
+}
+
 -- a step of a run
 pub problem-descended : (a b : ClauseSearch) (trail : Trail) (propagator : Propagator) (queue : DecideQueue)
     (in_lists : ∥ AreInLists b.table propagator.watches ∥₁) → IsConsistent b → IsSameProblem a b → variable_count trail ≡ variable_count b.trail →

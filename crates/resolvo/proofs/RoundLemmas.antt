@@ -25,7 +25,7 @@ use Rattle.resolver_clause_store.proofs.SlotLemmas.{slot-within}
 use Rattle.resolver_encoding.specs.Atoms.{Atom, atom}
 use Rattle.resolver_encoding.specs.Encodings.{Extends, Notes}
 use Rattle.resolver_encoding.specs.Notes.{IsBounded, notes_in}
-use Rattle.resolver_encoding.specs.SoFar.{IsReading, IsReadMore, IsReadSoFar}
+use Rattle.resolver_encoding.specs.SoFar.{IsReading, IsReadMore, IsReadSoFar, left_count}
 use Rattle.resolver_encoding.specs.Trails.{Follows, chosen_in, origin_at, solvables_before}
 use Rattle.resolver_encoding.specs.declared.chosen.Chosen.{Chosen}
 use Rattle.resolver_encoding.specs.declared.encoding.Encoding.{Encoding}
@@ -37,7 +37,9 @@ use Rattle.resolvo.specs.ClauseSearches.{IsConsistent, IsLoaded, KeepsLoaded, Ke
 use Rattle.resolvo.specs.ClauseSearches.{trail_of}
 use Rattle.resolvo.specs.declared.owners.Owners.{Owners}
 use Rattle.resolvo.specs.RoundStates.{AreRounds, HasFollowed, HasLoaded, HasBookmark, IsFollowing, IsFresh, IsSearchOf, IsStill, IsUpToDate, KeepsRead}
-use Rattle.resolvo.specs.RoundStates.{KeepsRoom, chosen_of, notes_of}
+use Rattle.resolvo.specs.RoundStates.{IsRound, KeepsRoom, chosen_of, notes_of}
+use Rattle.resolvo.specs.declared.rounds.Round.{Round}
+use Rattle.resolvo.specs.declared.rounds.Round.TheVariants.{Last, Fired, Read}
 use Rattle.resolvo.specs.declared.clause_search.ClauseSearch.{ClauseSearch}
 use Rattle.resolvo.specs.declared.rounds.Rounds.{Rounds}
 use Rattle.resolver_clause_store.proofs.ListLemmas.{Contains-at}
@@ -319,6 +321,15 @@ module _ {N S : Type 0} where
 
   pub keeps_trans : (u : Universe N S) (one two three : Rounds N S) → KeepsRead u one two → KeepsRead u two three → KeepsRead u one three
   keeps_trans u one two three first second = λ root h. second root (first root h)
+
+  -- a round that begins with the same notes
+  pub round_later : (u : Universe N S) (old mid new : Rounds N S) (round : Round) → notes_of mid ≡ notes_of old → IsRound u mid new round →
+      IsRound u old new round
+  round_later u old mid new (Last found) same is = is
+  round_later u old mid new Fired same is =
+      let FiredFrom : Notes N S → Type 0 = λ notes. ((notes_of new).read ≡ notes.read) × (left_count (notes_of new) < left_count notes) in
+      subst FiredFrom same is
+  round_later u old mid new Read same is = (omega (arith, is.0, ap (λ (notes : Notes N S). length notes.read) same), is.1)
 
   -- the limits stay
   pub room_trans : (one two three : Rounds N S) → KeepsRoom one two → KeepsRoom two three → KeepsRoom one three

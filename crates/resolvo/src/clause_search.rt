@@ -1,7 +1,7 @@
 //! A search over clauses: it decides and propagates, learns from conflicts, and backtracks.
 
 ghost use Rattle.std.specs.Prelude.{◌<◌, ◌≡◌, ◌≤◌, ◌+◌, ◌++◌, ◌∷◌, ◌⊎◌, ◌-◌, [], ℕ, All, IfErr, IfNone, IfOk, IfSome, List, None, OnErr, OnOk, Vec, length};
-ghost use Rattle.std.specs.Prelude.{max, if◌then◌else◌};
+ghost use Rattle.std.specs.Prelude.{max, true, if◌then◌else◌};
 ghost use Rattle.std.specs.declared.alloc.Global.{Global};
 ghost use Rattle.resolver_clause_store.specs.Formula.{AreBelow, IsBelow, clause_at};
 ghost use Rattle.resolver_clause_store.specs.Interruptions.{IsInterruption};
@@ -151,6 +151,44 @@ pub fn next_step<D: DependencyProvider>(
     match queue.next(trail, table, requirements)? {
         Some(choice) => Ok(Step::Decide(choice)),
         None => Ok(Step::Finished),
+    }
+}
+
+/// Propagates, and takes the choice that comes next. Returns whether there was one.
+///
+/// The provider may stop the search before the propagation.
+fn take_next<D: DependencyProvider>(
+    provider: &D,
+    trail: &mut Trail,
+    queue: &mut DecideQueue,
+    table: &Clauses,
+    requirements: &[StoredRequirement],
+    propagator: &mut Propagator,
+) -> Result<bool, Interrupted<D::Cancel>>
+    requires below { AreBelow (variable_count trail.old) table.now }
+    requires propagator { IsPropagator table.now trail.old propagator.old }
+    requires inside { All (λ (requirement : StoredRequirement). requirement.number < length table.now) requirements.now }
+    requires justified { IsJustified table.now trail.old }
+    requires chosen { AreChosen table.now requirements.now trail.old }
+    requires queued { IsQueued queue.old trail.old table.now requirements.now }
+    ensures propagator { OnOk result (IsPropagator table.now trail.new propagator.new) }
+    ensures refused { OnErr result (AreOwned table.now (pairs_of propagator.new.watches)) }
+    ensures justified { OnOk result (IsJustified table.now trail.new) }
+    ensures chosen { OnOk result (AreChosen table.now requirements.now trail.new) }
+    ensures size { OnOk result (variable_count trail.new ≡ variable_count trail.old) }
+    ensures kept { OnOk result (KeepsPlaces trail.old trail.new (length_of trail.old)) }
+    ensures assumed { OnOk result (AssumesNone trail.old trail.new) }
+    ensures fewer { IfOk result (λ is_taken. is_taken ≡ true → open_count trail.new < open_count trail.old) }
+    ensures queued { OnOk result (IsQueued queue.new trail.new table.now requirements.now) }
+    ensures refusal { IfErr result (IsInterruption (D.may_cancel provider.now)) }
+{
+    match next_step(provider, trail, queue, table, requirements, propagator)? {
+        Step::Decide(choice) => {
+            take(trail, table, choice)?;
+            Ok(true)
+        }
+        Step::Conflict(_) => Ok(false),
+        Step::Finished => Ok(false),
     }
 }
 
@@ -644,6 +682,31 @@ impl ClauseSearch {
             Step::Conflict(_) => Ok(()),
             Step::Finished => Ok(()),
         }
+    }
+
+    /// Propagates, and makes the next decision, whose consequences are left to the next run. Returns whether there was one.
+    ///
+    /// The provider may stop the search before the propagation.
+    pub fn decide<D: DependencyProvider>(
+        &mut self,
+        provider: &D,
+    ) -> Result<bool, Interrupted<D::Cancel>>
+        requires consistent { IsConsistent self.old }
+        ensures consistent { OnOk result (IsConsistent self.new) }
+        ensures same { OnOk result (IsSameProblem self.old self.new) }
+        ensures learnt { OnOk result (learnt_count_of self.new ≡ learnt_count_of self.old) }
+        ensures fewer { IfOk result (λ is_made. is_made ≡ true → open_count (trail_of self.new) < open_count (trail_of self.old)) }
+        ensures refusal { IfErr result (IsInterruption (D.may_cancel provider.now)) }
+    {
+        let is_made = take_next(
+            provider,
+            &mut self.trail,
+            &mut self.queue,
+            &self.table,
+            self.requirements.as_slice(),
+            &mut self.propagator,
+        )?;
+        Ok(is_made)
     }
 
     /// Searches for values, or for given clauses that no values make true together.

@@ -19,6 +19,7 @@ ghost use Rattle.resolver_encoding.specs.Refusals.{IsStop};
 ghost use Rattle.resolver_encoding.specs.SoFar.{IsProgress, IsReadSoFar};
 ghost use Rattle.resolver_encoding.specs.Reach.{AreNear};
 ghost use Rattle.resolvo.specs.declared.rounds.Found.TheVariants.{Answer as FoundAnswer};
+ghost use Rattle.resolver_encoding.specs.declared.progress.Progress.TheVariants.{Read as ReadProgress};
 ghost use Rattle.resolvo.specs.ClauseSearches.{IsConsistent, IsRootTurn, KeepsTurn, OutcomeIs, base_of, clause_count_of, learnt_count_of, trail_of};
 
 use crate::clause_search::{ClauseSearch, Outcome};
@@ -244,8 +245,56 @@ impl<N: Copy + Eq + Hash + Drop, S: Copy + Eq + Hash + Drop> Rounds<N, S> {
         Ok(progress)
     }
 
+    /// Makes the next decision, if clauses that are loaded first take entries of the trail back. Returns whether it made one.
+    fn decide_after_failure<D: DependencyProvider<NameId = N, SolvableId = S>>(
+        &mut self,
+        provider: &D,
+    ) -> Result<bool, Interrupted<D::Cancel>>
+        requires rounds { AreRounds (D.universe provider.now) self.old }
+        ensures rounds { OnOk result (AreRounds (D.universe provider.now) self.new) }
+        ensures loaded { OnOk result (IsUpToDate self.new) }
+        ensures same { IsSearchOf self.old self.new }
+        ensures turn { OnOk result (KeepsTurn (search_of self.old) (search_of self.new)) }
+        ensures limits { KeepsRoom self.old self.new }
+        ensures refusal { IfErr result (IsStop (D.may_cancel provider.now) (IsStuck self.new)) }
+    {
+        let before = self.search.trail().len();
+        self.load(provider)?;
+        if before <= self.search.trail().len() {
+            return Ok(false);
+        }
+        let is_made = self.search.decide(provider)?;
+        Ok(is_made)
+    }
+
+    /// Reads the chosen solvables after the next decision, if clauses that are loaded first take entries of the trail back.
+    ///
+    /// Versions that fail one after another are found so without the consequences of each, and without further decisions.
+    fn read_after_failure<D: DependencyProvider<NameId = N, SolvableId = S>>(
+        &mut self,
+        provider: &D,
+        cache: &mut Cache<N, S>,
+    ) -> Result<Progress, Interrupted<D::Cancel>>
+        requires rounds { AreRounds (D.universe provider.now) self.old }
+        requires is_true { IsTrueCache (D.universe provider.now) cache.old }
+        ensures is_true { IsTrueCache (D.universe provider.now) cache.new }
+        ensures rounds { OnOk result (AreRounds (D.universe provider.now) self.new) }
+        ensures keeps { OnOk result (GoesOn (D.universe provider.now) self.old self.new) }
+        ensures progress { IfOk result (IsProgress (notes_of self.old) (notes_of self.new)) }
+        ensures fit { IfOk result (λ progress. progress ≡ ReadProgress → length (notes_of self.new).read ≤ (notes_of self.new).variable_limit) }
+        ensures led { LeadsOn (D.universe provider.now) self.old self.new }
+        ensures limits { KeepsRoom self.old self.new }
+        ensures refusal { IfErr result (IsStop (D.may_cancel provider.now) (IsStuck self.new)) }
+    {
+        if self.decide_after_failure(provider)? {
+            let progress = self.read(provider, cache)?;
+            return Ok(progress);
+        }
+        Ok(Progress::Nothing)
+    }
+
     /// Searches, and reads the chosen solvables.
-    fn round<D: DependencyProvider<NameId = N, SolvableId = S>>(
+    fn search_and_read<D: DependencyProvider<NameId = N, SolvableId = S>>(
         &mut self,
         provider: &D,
         cache: &mut Cache<N, S>,
@@ -268,6 +317,32 @@ impl<N: Copy + Eq + Hash + Drop, S: Copy + Eq + Hash + Drop> Rounds<N, S> {
                 Progress::Fired => Ok(Round::Fired),
                 Progress::Read => Ok(Round::Read),
             },
+        }
+    }
+
+    /// Reads what is chosen after a failure, if there is something, and searches and reads otherwise.
+    fn round<D: DependencyProvider<NameId = N, SolvableId = S>>(
+        &mut self,
+        provider: &D,
+        cache: &mut Cache<N, S>,
+    ) -> Result<Round, Interrupted<D::Cancel>>
+        requires rounds { AreRounds (D.universe provider.now) self.old }
+        requires is_true { IsTrueCache (D.universe provider.now) cache.old }
+        ensures is_true { IsTrueCache (D.universe provider.now) cache.new }
+        ensures rounds { OnOk result (AreRounds (D.universe provider.now) self.new) }
+        ensures keeps { OnOk result (GoesOn (D.universe provider.now) self.old self.new) }
+        ensures round { IfOk result (IsRound (D.universe provider.now) self.old self.new) }
+        ensures led { LeadsOn (D.universe provider.now) self.old self.new }
+        ensures limits { KeepsRoom self.old self.new }
+        ensures refusal { IfErr result (IsStop (D.may_cancel provider.now) (IsStuck self.new)) }
+    {
+        match self.read_after_failure(provider, cache)? {
+            Progress::Nothing => {
+                let round = self.search_and_read(provider, cache)?;
+                Ok(round)
+            }
+            Progress::Fired => Ok(Round::Fired),
+            Progress::Read => Ok(Round::Read),
         }
     }
 

@@ -406,6 +406,31 @@ fn places_through(
     Ok(Some((bookmarked, kept, length, search.kept())))
 }
 
+/// Whether a decision was made, and the numbers of entries of the trail after it and after the next run.
+type Made = (bool, usize, usize);
+
+/// Returns what the next decision of a search is, alone.
+fn decides_alone(
+    alloc: Global,
+    search: &mut ClauseSearch,
+    provider: &TestProvider,
+    table: &Clauses,
+) -> Result<Option<Made>, AllocError>
+    requires { IsConsistent search.old }
+{
+    if !load_all(alloc, search, table, 5)? {
+        return Ok(None);
+    }
+    let Ok(is_made) = search.decide(provider) else {
+        return Ok(None);
+    };
+    let length = search.trail().len();
+    if !finishes(alloc, search, provider) {
+        return Ok(None);
+    }
+    Ok(Some((is_made, length, search.trail().len())))
+}
+
 /// Returns the place of a variable in the clause with this number.
 fn place_in(table: &Clauses, number: usize, variable: Variable) -> Option<usize> {
     if table.len() <= number {
@@ -569,6 +594,8 @@ enum Task<'x> {
     Core(usize, &'x [usize]),
     /// The first two clauses are decided before the others are loaded. Then these places are left.
     Keep(Places),
+    /// The next decision alone has this result.
+    Decide(Made),
     /// Whether the cancel check with this number, counted from 1, stops the search.
     Cancel(u32, bool),
     /// Two literals are assumed in turn, with these results and slots of these variables.
@@ -598,6 +625,10 @@ fn does(
         Task::Keep(wanted) => {
             let places = places_through(alloc, search, provider, table)?;
             Ok(places == Some(*wanted))
+        }
+        Task::Decide(wanted) => {
+            let made = decides_alone(alloc, search, provider, table)?;
+            Ok(made == Some(*wanted))
         }
         Task::Cancel(check, wanted) => {
             let cancelled = is_cancelled(alloc, search, provider, table, *check)?;
@@ -760,6 +791,14 @@ fn a_clause_that_is_false_when_it_comes_takes_its_highest_level_back(
     assert!(rt; finds(rt.alloc(), &of_the_second, &Task::Keep((2, 1, 1, 1)))?);
     let of_the_first: [&[i32]; 3] = [&[1, 2], &[3, 4], &[-1]];
     assert!(rt; finds(rt.alloc(), &of_the_first, &Task::Keep((2, 0, 0, 0)))?);
+    Ok(())
+}
+
+#[test]
+fn a_decision_alone_leaves_its_consequences_to_the_next_run(rt: HostRuntime) -> Result<(), Fail> {
+    let consequence: [&[i32]; 3] = [&[1, 2], &[-1, 3], &[-3, -2]];
+    assert!(rt; finds(rt.alloc(), &consequence, &Task::Decide((true, 1, 3)))?);
+    assert!(rt; finds(rt.alloc(), &[&[1], &[-1, 2]], &Task::Decide((false, 2, 2)))?);
     Ok(())
 }
 

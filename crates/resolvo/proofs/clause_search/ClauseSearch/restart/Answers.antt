@@ -1,18 +1,7 @@
-use Rattle.std.proofs.Common.{refl}
-use Rattle.resolvo.proofs.LoadLemmas.{problem-descended, problem-trans}
+use Rattle.resolvo.proofs.LoadLemmas.{problem-descended, problem-itself, problem-trans}
 use Rattle.resolvo.proofs.TurnLemmas.{consistent-descended}
 use Rattle.resolvo.proofs.WatchedLemmas.{in_lists, owned-either}
-use Rattle.resolvo.specs.ClauseSearches.{IsSameProblem}
-use Rattle.resolvo.specs.declared.clause_search.ClauseSearch.{ClauseSearch}
 use Rattle.resolvo.proofs.clause_search.ClauseSearch.restart.Goals as goal
-
-same-itself : (it : ClauseSearch) → IsSameProblem it it
-same-itself it = record {
-  loaded = λ given numbers loaded. loaded;
-  variables = refl;
-  kept = λ base k. k;
-  turn = record { base = refl; held = refl; assumed = record { was = λ v s at reason. at }; places = λ base k. k };
-}
 
 pub invariant_of-self-2 : goal.invariant_of-self-2
 invariant_of-self-2 g c =
@@ -32,7 +21,7 @@ returns-in_ok-return_to-in-Decide-clause-same g c =
     let step = c.in_ok-step.ensures in
     problem-trans _ _ _
     (problem-descended _ c.args.self.now c.next_step.new.trail c.next_step.new.propagator c.next_step.new.queue _ c.requires.consistent
-    (same-itself c.args.self.now) step.size step.kept step.assumed)
+    (problem-itself c.args.self.now) step.size step.kept step.assumed)
     c.in_ok-return_to-in-Decide.ensures.same
 
 pub returns-in-Conflict-clause-consistent : goal.returns-in-Conflict-clause-consistent

@@ -1,0 +1,26 @@
+use Rattle.std.proofs.Common.{◌∙◌}
+use Rattle.resolvo.specs.RoundStates.{notes_of}
+use Rattle.resolvo.proofs.RoundLemmas.{searched}
+use Rattle.resolvo.proofs.TurnLemmas.{turn-trans}
+use Rattle.std.proofs.lemmas.Result.{IfOk-from_err}
+use Rattle.resolver_encoding.proofs.RefusalLemmas.{IfErr-of, IfErr-stop, shortage_of_memory}
+use Rattle.resolvo.proofs.rounds.Rounds.decide_after_failure.Goals as goal
+
+pub returns : goal.returns
+returns g c =
+    let mid = c.load.new.self in
+    let up = c.in_ok-load.ensures.loaded in
+    let same = c.in_ok-is_made.ensures.same in
+    let loaded = c.load.ensures.limits in
+    record {
+      rounds = searched (g.D.Interner.universe c.args.provider.now) mid c.decide.new.self c.in_ok-load.ensures.rounds c.in_ok-is_made.ensures.consistent
+          (same.loaded (notes_of mid).table (notes_of mid).requirements up.loaded) (same.variables ∙ up.variables) same.kept;
+      loaded = record {
+        loaded = same.loaded (notes_of mid).table (notes_of mid).requirements up.loaded;
+        variables = same.variables ∙ up.variables;
+      };
+      same = record { encoding = c.load.ensures.same.encoding; chosen = c.load.ensures.same.chosen };
+      turn = turn-trans c.args.self.now.search c.load.new.self.search c.decide.new.self c.in_ok-load.ensures.turn same.turn;
+      limits = record { notes = loaded.notes; clauses = loaded.clauses; learnt = loaded.learnt };
+      refusal = tt;
+    }
