@@ -1,4 +1,4 @@
-use Rattle.resolvo.proofs.VisitLemmas.{is-placed, is-unsatisfied, next-placed, next-unsatisfied}
+use Rattle.resolvo.proofs.VisitLemmas.{next-placed, next-unsatisfied}
 use Rattle.resolvo.proofs.propagator.Propagator.next_watcher.Goals as goal
 
 pub returns-then-falsified-clause-visiting : goal.returns-then-falsified-clause-visiting

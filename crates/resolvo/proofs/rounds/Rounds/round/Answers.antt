@@ -1,6 +1,6 @@
 use Rattle.std.proofs.Common.{◌≡◌}
 use Rattle.resolver_encoding.specs.SoFar.{IsProgress}
-use Rattle.resolvo.specs.RoundStates.{IsRound, notes_of}
+use Rattle.resolvo.specs.RoundStates.{notes_of}
 use Rattle.resolvo.proofs.GoingLemmas.{goes_trans}
 use Rattle.resolvo.proofs.LeadingLemmas.{leads_trans}
 use Rattle.resolvo.proofs.RoundLemmas.{room_trans, round_later}

@@ -1,5 +1,4 @@
 use Rattle.std.proofs.Common.{[]}
-use Rattle.resolver_encoding.specs.Notes.{notes_in}
 use Rattle.resolvo.proofs.encoding_tests.clauses.turns.begin.Goals as goal
 
 pub read_given-requires-clause-reading : goal.read_given-requires-clause-reading
