@@ -27,6 +27,7 @@ pub mod FormulaLemmas
 pub mod PlaceLemmas
 pub mod GrowLemmas
 pub mod KeptLemmas
+pub mod LastOpenLemmas
 pub mod LevelLemmas
 pub mod SettledLemmas
 pub mod WatchListLemmas

@@ -16,28 +16,22 @@ use Rattle.resolver_clause_store.specs.declared.literals.Literal.{Literal}
 use Rattle.resolver_clause_store.specs.declared.clauses.StoredRequirement.{StoredRequirement}
 use Rattle.resolver_clause_store.specs.declared.trail.Slot.{Slot}
 use Rattle.resolver_clause_store.specs.declared.trail.Trail.{Trail}
+use Rattle.resolver_clause_store.specs.Decisions.{IsFirst}
 use Rattle.resolver_clause_store.specs.Formula.{clause_at}
+use Rattle.resolver_clause_store.specs.LastOpens.{IsLastOpen, IsOpenSince}
 use Rattle.resolver_clause_store.specs.Outcomes.{IsMet}
 use Rattle.resolver_clause_store.specs.TrailView.{KeepsPlaces, length_of, literal_value, slot_of, variable_at}
 use Rattle.resolver_clause_store.proofs.KeptLemmas.{slot_at}
+use Rattle.resolver_clause_store.proofs.LastOpenLemmas.{last-add, last-cut, last-grown, last-same, open-now, slot-back}
 use Rattle.resolver_clause_store.proofs.ListLemmas.{Contains-here, Contains-there}
 use Rattle.resolver_clause_store.proofs.TrailLemmas.{value-true}
+use Rattle.resolver_clause_store.specs.declared.last_open.LastOpen.{LastOpen}
 use Rattle.resolver_clause_store.specs.declared.parked.ParkedLists.{ParkedLists}
 use Rattle.resolver_clause_store.specs.ListPools.{list_of}
 use Rattle.resolver_clause_store.specs.declared.queue.DecideQueue.{DecideQueue}
 use Rattle.resolver_clause_store.specs.Queues.{IsFollowed, IsHeld, IsMetBy, IsQueued, IsInactive}
 use Rattle.resolver_clause_store.specs.Requirers.{AreRequirers, requirer_of}
 use Rattle.resolver_clause_store.specs.declared.requirers.Requirers.{Requirers}
-
--- a slot at a place that stays was there before
-pub slot-back : (old new : Trail) (count variable : ℕ) (slot : Slot) → KeepsPlaces old new count → slot_of new variable ≡ Some slot → slot.place < count →
-    slot_of old variable ≡ Some slot
-slot-back old new count variable slot keeps at below =
-    let s = slot_at old slot.place (omega (arith, below, keeps.were)) in
-    let named : variable_at old slot.place ≡ variable = sym (keeps.variables slot.place below) ∙ (new.listed variable slot at).1 in
-    let was : slot_of old variable ≡ Some s.0 = ap (λ v. slot_of old v) (sym named) ∙ s.1 in
-    let here : slot_of new variable ≡ Some s.0 = keeps.slots variable s.0 was (omega (arith, s.2, below)) in
-    was ∙ sym here ∙ at
 
 -- a requirement in a list that stays
 parked-same : (old new : ParkedLists) (variable index : ℕ) → list_of new variable ≡ list_of old variable → Contains (list_of old variable) index →
@@ -117,8 +111,9 @@ requirers-add it table requirements requirement are = record {
 -- the first entries of the trail stay
 pub queued-cut : (old new : DecideQueue) (before after : Trail) (table : List (List Literal)) (requirements : List StoredRequirement) →
     new.active.items ≡ old.active.items → new.inactive ≡ old.inactive → new.met ≡ old.met → new.requirers ≡ old.requirers →
-    new.followed.items ≡ old.followed.items → new.kept ≤ old.kept → KeepsPlaces before after new.kept → IsQueued old before table requirements → IsQueued new after table requirements
-queued-cut old new before after table requirements active inactive met requirers followed less keeps it = record {
+    new.followed.items ≡ old.followed.items → new.kept ≤ old.kept → ((last : LastOpen) → new.last ≡ Some last → (old.last ≡ Some last) ×
+    (last.count ≤ new.kept)) → KeepsPlaces before after new.kept → IsQueued old before table requirements → IsQueued new after table requirements
+queued-cut old new before after table requirements active inactive met requirers followed less left keeps it = record {
   following = record {
     followed = omega (arith, less, it.following.followed, ap length followed);
     reached = keeps.are;
@@ -129,18 +124,22 @@ queued-cut old new before after table requirements active inactive met requirers
   each = λ index d below. rw (active, inactive, met, followed)
       (held-cut old.active.items old.inactive old.met old.followed.items before after old.kept new.kept _ index less it.following.reached
       it.following.same keeps (it.each index d below));
+  last = λ last is. let was = left last is in
+      last-cut last old.kept new.kept before after table requirements keeps was.1 (it.last last was.0);
 }
 
 -- the same, for a queue that does not change
 pub queued-kept : (it : DecideQueue) (before after : Trail) (table : List (List Literal)) (requirements : List StoredRequirement) →
     KeepsPlaces before after it.kept → IsQueued it before table requirements → IsQueued it after table requirements
-queued-kept it before after table requirements keeps queued = queued-cut it it before after table requirements refl refl refl refl refl (omega arith) keeps queued
+queued-kept it before after table requirements keeps queued = queued-cut it it before after table requirements refl refl refl refl refl (omega arith)
+    (λ last is. (is, (queued.last last is).count)) keeps queued
 
 -- other parts of the queue change
 pub queued-same : (old new : DecideQueue) (trail : Trail) (table : List (List Literal)) (requirements : List StoredRequirement) →
     new.active.items ≡ old.active.items → new.inactive ≡ old.inactive → new.met ≡ old.met → new.requirers ≡ old.requirers →
-    new.followed.items ≡ old.followed.items → new.kept ≡ old.kept → IsQueued old trail table requirements → IsQueued new trail table requirements
-queued-same old new trail table requirements active inactive met requirers followed kept it = record {
+    new.followed.items ≡ old.followed.items → new.kept ≡ old.kept → new.last ≡ old.last → IsQueued old trail table requirements →
+    IsQueued new trail table requirements
+queued-same old new trail table requirements active inactive met requirers followed kept last it = record {
   following = record {
     followed = omega (arith, kept, it.following.followed, ap length followed);
     reached = omega (arith, kept, it.following.reached);
@@ -148,6 +147,7 @@ queued-same old new trail table requirements active inactive met requirers follo
   };
   requirers = requirers-same old.requirers new.requirers table requirements requirers it.requirers;
   each = λ index d below. rw (active, inactive, met, followed, kept) (it.each index d below);
+  last = last-same old.last new.last old.kept new.kept trail table requirements last (omega (arith, kept)) it.last;
 }
 
 -- the clauses stay
@@ -161,6 +161,40 @@ queued-grown it trail table more requirements inside same queued = record {
   each = λ index d below.
       let Held : List Literal → Type 0 = λ clause. IsHeld it.active.items it.inactive it.met it.followed.items it.kept trail clause index in
       subst Held (sym (same (get_or requirements index d).number (inside index d below))) (queued.each index d below);
+  last = λ last is. last-grown last it.kept trail table more requirements
+      (λ d below. same (get_or requirements last.requirement d).number (inside last.requirement d below)) (queued.last last is);
+}
+
+-- a requirement is found left to decide
+last-found : (trail : Trail) (table : List (List Literal)) (requirements : List StoredRequirement) (d : StoredRequirement) (last : LastOpen) (kept : ℕ) →
+    last.count ≡ length_of trail → last.requirement < length requirements →
+    IsFirst trail (clause_at table (get_or requirements last.requirement d).number) last.first → kept ≡ length_of trail →
+    IsLastOpen last kept trail table requirements
+last-found trail table requirements d last kept count inside first all = record {
+  inside = inside;
+  count = omega (arith, count, all);
+  is_open = λ e.
+      let Here : StoredRequirement → Type 0 = λ r. IsOpenSince trail (clause_at table r.number) last.first last.count in
+      let Since : ℕ → Type 0 = λ n. IsOpenSince trail (clause_at table (get_or requirements last.requirement d).number) last.first n in
+      subst Here (get_or_default requirements last.requirement d e inside) (subst Since (sym count) (open-now trail _ last.first first));
+}
+
+pub queued-open : (old new : DecideQueue) (trail : Trail) (table : List (List Literal)) (requirements : List StoredRequirement) (d : StoredRequirement)
+    (last : LastOpen) → new.active.items ≡ old.active.items → new.inactive ≡ old.inactive → new.met ≡ old.met → new.requirers ≡ old.requirers →
+    new.followed.items ≡ old.followed.items → new.kept ≡ old.kept → new.last ≡ Some last → last.count ≡ length_of trail →
+    last.requirement < length requirements → IsFirst trail (clause_at table (get_or requirements last.requirement d).number) last.first →
+    old.kept ≡ length_of trail → IsQueued old trail table requirements → IsQueued new trail table requirements
+queued-open old new trail table requirements d last active inactive met requirers followed kept found count inside first all it = record {
+  following = record {
+    followed = omega (arith, kept, it.following.followed, ap length followed);
+    reached = omega (arith, kept, it.following.reached);
+    same = λ place below. ap (λ list. slice_index list place) followed ∙ it.following.same place (omega (arith, below, kept));
+  };
+  requirers = requirers-same old.requirers new.requirers table requirements requirers it.requirers;
+  each = λ index d below. rw (active, inactive, met, followed, kept) (it.each index d below);
+  last = λ one is.
+      let Last : LastOpen → Type 0 = λ x. IsLastOpen x new.kept trail table requirements in
+      subst Last (same_Some _ _ (sym found ∙ is)) (last-found trail table requirements d last new.kept count inside first (kept ∙ all));
 }
 
 -- more active requirements
@@ -172,9 +206,9 @@ held-more active more inactive met followed kept trail clause index held =
 -- a requirement after the others
 pub queued-add : (old new : DecideQueue) (trail : Trail) (table : List (List Literal)) (requirements : List StoredRequirement)
     (requirement : StoredRequirement) (last : ℕ) → last ≡ length requirements → new.active.items ≡ old.active.items ++ last ∷ [] → new.inactive ≡ old.inactive →
-    new.met ≡ old.met → new.requirers ≡ old.requirers → new.followed.items ≡ old.followed.items → new.kept ≡ old.kept → IsQueued old trail table requirements →
-    IsQueued new trail table (requirements ++ requirement ∷ [])
-queued-add old new trail table requirements requirement last end active inactive met requirers followed kept it = record {
+    new.met ≡ old.met → new.requirers ≡ old.requirers → new.followed.items ≡ old.followed.items → new.kept ≡ old.kept → new.last ≡ old.last →
+    IsQueued old trail table requirements → IsQueued new trail table (requirements ++ requirement ∷ [])
+queued-add old new trail table requirements requirement last end active inactive met requirers followed kept last_same it = record {
   following = record {
     followed = omega (arith, kept, it.following.followed, ap length followed);
     reached = omega (arith, kept, it.following.reached);
@@ -193,14 +227,17 @@ queued-add old new trail table requirements requirement last end active inactive
       let Inside : ℕ → Type 0 = λ i. Contains (old.active.items ++ last ∷ []) i in
       inl (subst Inside same (Contains-push old.active.items last)))
       (cases_lt index (length requirements)));
+  last = last-same old.last new.last old.kept new.kept trail table (requirements ++ requirement ∷ []) last_same (omega (arith, kept))
+      (λ one is. last-add one old.kept trail table requirements requirement (it.last one is));
 }
 
 -- the last place that was followed is forgotten
 pub queued-forget : (old new : DecideQueue) (trail : Trail) (table : List (List Literal)) (requirements : List StoredRequirement) (variable : ℕ) →
     old.kept < length old.followed.items → old.followed.items ≡ new.followed.items ++ variable ∷ [] → new.active.items ≡ old.active.items ++
     list_of old.met variable → ((v : ℕ) → v ≢ variable → list_of new.met v ≡ list_of old.met v) → new.inactive ≡ old.inactive →
-    new.requirers ≡ old.requirers → new.kept ≡ old.kept → IsQueued old trail table requirements → IsQueued new trail table requirements
-queued-forget old new trail table requirements variable more followed active others inactive requirers kept it =
+    new.requirers ≡ old.requirers → new.kept ≡ old.kept → new.last ≡ old.last → IsQueued old trail table requirements →
+    IsQueued new trail table requirements
+queued-forget old new trail table requirements variable more followed active others inactive requirers kept last_same it =
     let longer : length old.followed.items ≡ length new.followed.items + 1 = ap length followed ∙ length-append new.followed.items (variable ∷ []) in
     let read : (place : ℕ) → place < length new.followed.items → slice_index new.followed.items place ≡ slice_index old.followed.items place = λ place below.
     sym (ap (λ list. slice_index list place) followed ∙ get_or-append new.followed.items (variable ∷ []) 0 place below) in
@@ -240,6 +277,7 @@ queued-forget old new trail table requirements variable more followed active oth
           (cases_eq w.variable variable))
           rest)
           (it.each index d below));
+      last = last-same old.last new.last old.kept new.kept trail table requirements last_same (omega (arith, kept)) it.last;
     }
 
 -- the next place is followed
@@ -250,8 +288,8 @@ pub queued-follow : (old new : DecideQueue) (trail : Trail) (table : List (List 
     ((v : ℕ) → v ≢ variable → list_of new.inactive v ≡ list_of old.inactive v) →
     ((index : ℕ) → Contains (list_of old.inactive variable) index → Contains new.active.items index ⊎
     (Contains (list_of new.inactive variable) index × ((slot : Slot) → slot_of trail variable ≡ Some slot → slot.value ≡ true → ⊥))) →
-    IsQueued old trail table requirements → IsQueued new trail table requirements
-queued-follow old new trail table requirements variable all inside next followed kept met requirers active others here it =
+    new.last ≡ old.last → IsQueued old trail table requirements → IsQueued new trail table requirements
+queued-follow old new trail table requirements variable all inside next followed kept met requirers active others here last_same it =
     let longer : length new.followed.items ≡ length old.followed.items + 1 = ap length followed ∙ length-append old.followed.items (variable ∷ []) in
     let read : (place : ℕ) → place < old.kept → slice_index new.followed.items place ≡ slice_index old.followed.items place = λ place below.
     ap (λ list. slice_index list place) followed ∙ get_or-append old.followed.items (variable ∷ []) 0 place (omega (arith, below, all)) in
@@ -312,6 +350,7 @@ queued-follow old new trail table requirements variable all inside next followed
           }))))
           rest)
           (it.each index d below);
+      last = last-same old.last new.last old.kept new.kept trail table requirements last_same (omega (arith, kept)) it.last;
     }
 
 -- the elements of a list from which one was removed
@@ -331,8 +370,8 @@ pub queued-settled : (old new : DecideQueue) (trail : Trail) (table : List (List
     ((v index : ℕ) → Contains (list_of old.met v) index → Contains (list_of new.met v) index) →
     ((d : StoredRequirement) → settled < length requirements →
     IsHeld new.active.items new.inactive new.met new.followed.items new.kept trail (clause_at table (get_or requirements settled d).number) settled) →
-    IsQueued old trail table requirements → IsQueued new trail table requirements
-queued-settled old new trail table requirements settled followed kept requirers active inactive met here it = record {
+    new.last ≡ old.last → IsQueued old trail table requirements → IsQueued new trail table requirements
+queued-settled old new trail table requirements settled followed kept requirers active inactive met here last it = record {
   following = record {
     followed = omega (arith, kept, it.following.followed, ap length followed);
     reached = omega (arith, kept, it.following.reached);
@@ -367,6 +406,7 @@ queued-settled old new trail table requirements settled followed kept requirers 
       })))
       rest)
       (it.each index d below);
+  last = last-same old.last new.last old.kept new.kept trail table requirements last (omega (arith, kept)) it.last;
 }
 
 -- the elements of a list behind its first one
@@ -385,8 +425,8 @@ pub queued-taken : (old new : DecideQueue) (trail : Trail) (table : List (List L
     ((v index : ℕ) → Contains (list_of old.inactive v) index → Contains (list_of new.inactive v) index) →
     ((d : StoredRequirement) → number < length requirements →
     Contains new.active.items number ⊎ IsInactive new.inactive trail new.kept (clause_at table (get_or requirements number d).number) number) →
-    IsQueued old trail table requirements → IsQueued new trail table requirements
-queued-taken old new trail table requirements candidate number taken others requirers followed kept active inactive here it = record {
+    new.last ≡ old.last → IsQueued old trail table requirements → IsQueued new trail table requirements
+queued-taken old new trail table requirements candidate number taken others requirers followed kept active inactive here last it = record {
   following = record {
     followed = omega (arith, kept, it.following.followed, ap length followed);
     reached = omega (arith, kept, it.following.reached);
@@ -431,6 +471,7 @@ queued-taken old new trail table requirements candidate number taken others requ
       (cases_eq w.variable candidate))
       rest)
       (it.each index d below);
+  last = last-same old.last new.last old.kept new.kept trail table requirements last (omega (arith, kept)) it.last;
 }
 
 -- a requirement was put aside for a variable that was noted for it

@@ -40,3 +40,4 @@ pub mod Scores
 pub mod Statements
 pub mod Rules
 pub mod TrueRules
+pub mod LastOpens

@@ -9,6 +9,8 @@ use Rattle.resolver_clause_store.specs.TrailView.{length_of, literal_value, slot
 use Rattle.resolver_clause_store.specs.declared.parked.ParkedLists.{ParkedLists}
 use Rattle.resolver_clause_store.specs.ListPools.{list_of}
 use Rattle.resolver_clause_store.specs.Requirers.{AreRequirers}
+use Rattle.resolver_clause_store.specs.LastOpens.{IsLastOpen}
+use Rattle.resolver_clause_store.specs.declared.last_open.LastOpen.{LastOpen}
 use Rattle.resolver_clause_store.specs.declared.queue.DecideQueue.{DecideQueue}
 
 -- The requirement with this index is put aside for a variable that its clause negates, and that is not true at an
@@ -41,13 +43,15 @@ pub record IsFollowing (queue : DecideQueue) (trail : Trail) : Type 0 where
   pub reached : queue.kept ≤ length_of trail
   pub same : (place : ℕ) → place < queue.kept → slice_index queue.followed.items place ≡ variable_at trail place
 
--- the queue follows the trail, each requirement is in one of its lists, and the requirers that are known are right
+-- The queue follows the trail, each requirement is in one of its lists, the requirers that are known are right, and the requirement that was last
+-- found left to decide was so.
 pub record IsQueued (queue : DecideQueue) (trail : Trail) (table : List (List Literal)) (requirements : List StoredRequirement) : Type 0 where
   pub following : IsFollowing queue trail
   pub requirers : AreRequirers queue.requirers table requirements
   pub each : (index : ℕ) (d : StoredRequirement) → index < length requirements →
       IsHeld queue.active.items queue.inactive queue.met queue.followed.items queue.kept trail
       (clause_at table (slice_index_or requirements index d).number) index
+  pub last : (last : LastOpen) → queue.last ≡ Some last → IsLastOpen last queue.kept trail table requirements
 
 -- for every trail and all requirements, the queue still follows the trail and has the requirements
 abbrev pub StaysQueued : DecideQueue → DecideQueue → Type 0

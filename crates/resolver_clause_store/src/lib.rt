@@ -10,6 +10,7 @@ mod hints;
 mod ids;
 mod index_sets;
 mod kinds;
+mod last_open;
 mod laws;
 mod lists;
 mod literals;

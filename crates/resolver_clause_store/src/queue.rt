@@ -1,22 +1,24 @@
 //! The queue of requirements to decide.
 
-ghost use Rattle.std.specs.Prelude.{◌<◌, ◌≡◌, ◌≤◌, ◌+◌, ◌++◌, ◌∷◌, [], All, IfNone, IfOk, IfSome, List, OnOk, Some, Vec, false, length, min, true};
+ghost use Rattle.std.specs.Prelude.{◌<◌, ◌≡◌, ◌≤◌, ◌+◌, ◌++◌, ◌∷◌, [], All, IfNone, IfOk, IfSome, List, OnOk, Some, Vec, false, length, min, slice_index_or, true};
 ghost use Rattle.std.specs.Option.{option_map_or};
 ghost use Rattle.std.specs.declared.alloc.Global.{Global};
-ghost use Rattle.resolver_clause_store.specs.Formula.{AreBelow, clause_at};
+ghost use Rattle.resolver_clause_store.specs.Formula.{AreBelow, IsBelow, clause_at};
 ghost use Rattle.resolver_clause_store.specs.Outcomes.{IsMet};
 ghost use Rattle.resolver_clause_store.specs.TrailView.{KeepsPlaces, length_of, slot_of, variable_count};
 ghost use Rattle.resolver_clause_store.specs.declared.literals.Literal.{Literal};
 ghost use Rattle.resolver_clause_store.specs.declared.clauses.StoredRequirement.{StoredRequirement};
 ghost use Rattle.resolver_clause_store.specs.declared.trail.Slot.{Slot};
 ghost use Rattle.resolver_clause_store.specs.declared.trail.Trail.{Trail};
-ghost use Rattle.resolver_clause_store.specs.Decisions.{IsChoice};
+ghost use Rattle.resolver_clause_store.specs.Decisions.{IsChoice, IsFirst};
+ghost use Rattle.resolver_clause_store.specs.LastOpens.{IsOpenSince};
 ghost use Rattle.resolver_clause_store.specs.Settled.{AllSettled};
 ghost use Rattle.resolver_clause_store.specs.ListPools.{list_of};
 ghost use Rattle.resolver_clause_store.specs.Requirers.{requirer_of};
 
 use crate::clauses::{Clauses, StoredRequirement, clause};
 use crate::decisions::Choice;
+use crate::last_open::{LastOpen, still_open, unless_cut};
 use crate::literals::{Literal, Variable};
 use crate::numbers::narrow;
 use crate::owner::Owner;
@@ -74,6 +76,8 @@ pub struct DecideQueue {
     kept: usize,
     /// The order of the active requirements.
     ranks: Ranks,
+    /// The requirement that was last found left to decide, while the trail has the entries that it had then.
+    last: Option<LastOpen>,
 }
 
 impl DecideQueue {
@@ -91,6 +95,7 @@ impl DecideQueue {
             followed: Vec::new(alloc),
             kept: 0,
             ranks: Ranks::new(alloc, activity),
+            last: None,
         }
     }
 
@@ -141,6 +146,7 @@ impl DecideQueue {
             KeepsPlaces old new (min self.old.kept count) → IsQueued self.old old table requirements → IsQueued self.new new table requirements }
     {
         self.kept = self.kept.min(count);
+        self.last = unless_cut(self.last, self.kept);
     }
 
     /// Returns the variable that a requirement depends on, unless that is true by an unchanged entry, or is not known.
@@ -257,6 +263,43 @@ impl DecideQueue {
         Ok(())
     }
 
+    /// Returns the place of the first candidate of a requirement that is not false, if the requirement was the last one found left
+    /// to decide, and is known to be so still.
+    fn known_first(&self, trail: &Trail, literals: &[Literal], requirement: u32) -> Option<usize>
+        requires { IsBelow (variable_count trail.now) literals.now }
+        ensures { IfSome result (λ first. ((last : LastOpen) → self.now.last ≡ Some last → last.requirement ≡ requirement →
+            IsOpenSince trail.now literals.now last.first last.count) → IsFirst trail.now literals.now first) }
+    {
+        match &self.last {
+            Some(last) => {
+                if last.requirement == requirement {
+                    return still_open(trail, literals, last);
+                }
+                None
+            }
+            None => None,
+        }
+    }
+
+    /// Notes that a requirement is left to decide, and returns the choice of its candidate at a place.
+    fn choose(&mut self, trail: &Trail, requirement: u32, number: u32, first: usize) -> Choice
+        ensures choice { (result.number ≡ number) × (result.place ≡ first) }
+        ensures followed { IsFollowed self.old trail.now → IsFollowed self.new trail.now }
+        ensures queued { (table : List (List Literal)) (requirements : List StoredRequirement) (d : StoredRequirement) → requirement < length requirements →
+            IsFirst trail.now (clause_at table (slice_index_or requirements requirement d).number) first → IsFollowed self.old trail.now →
+            IsQueued self.old trail.now table requirements → IsQueued self.new trail.now table requirements }
+    {
+        self.last = Some(LastOpen {
+            requirement,
+            first,
+            count: trail.len(),
+        });
+        Choice {
+            number: number as usize,
+            place: first,
+        }
+    }
+
     /// Looks at the active requirement at a place. Returns its candidate if it is to be decided, and puts it aside
     /// otherwise.
     fn consider(
@@ -285,7 +328,11 @@ impl DecideQueue {
             return Ok(None);
         }
         let requirement = &requirements[index];
-        let literals = clause(table, requirement.number as usize);
+        let clause_number = requirement.number;
+        let literals = clause(table, clause_number as usize);
+        if let Some(first) = self.known_first(trail, literals, number) {
+            return Ok(Some(self.choose(trail, number, clause_number, first)));
+        }
         match standing_of(trail, literals) {
             Standing::Inactive(variable) => {
                 self.inactive.add(variable.index(), number)?;
@@ -300,10 +347,9 @@ impl DecideQueue {
                 self.ranks.leave(self.active.as_slice(), place);
                 Ok(None)
             }
-            Standing::Open { first, count: _ } => Ok(Some(Choice {
-                number: requirement.number as usize,
-                place: first,
-            })),
+            Standing::Open { first, count: _ } => {
+                Ok(Some(self.choose(trail, number, clause_number, first)))
+            }
         }
     }
 

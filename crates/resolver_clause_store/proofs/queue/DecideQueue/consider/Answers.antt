@@ -1,6 +1,9 @@
-use Rattle.std.proofs.Common.{arith, false, refl, sym, get_or, length, ◌≡◌, ◌<◌}
+use Rattle.std.proofs.Common.{ℕ, arith, false, refl, subst, sym, get_or, length, ◌≡◌, ◌<◌}
 use Rattle.std.proofs.lemmas.List.{get_or_default}
 use Rattle.resolver_clause_store.specs.declared.clauses.StoredRequirement.{StoredRequirement}
+use Rattle.resolver_clause_store.specs.Decisions.{IsFirst}
+use Rattle.resolver_clause_store.specs.Formula.{clause_at}
+use Rattle.resolver_clause_store.specs.LastOpens.{IsOpenSince}
 use Rattle.resolver_clause_store.proofs.QueueLemmas.{held-by_candidate, held-inactive, left-read, parked-more, queued-settled, requirers-noted}
 use Rattle.resolver_clause_store.proofs.queue.DecideQueue.consider.Goals as goal
 
@@ -26,7 +29,7 @@ returns-in_ok-note-in-Inactive-clause-queued c =
     (held-inactive _ it.inactive c.add.new.self it.met it.followed.items it.kept c.args.trail.now c.args.table.now c.args.requirements.now
     requirement c.clause-literals.result.now index c.in-Inactive.variable here is c.clause-literals.ensures
     c.in-Inactive.ensures)
-    c.requires.queued
+    refl c.requires.queued
 
 pub returns-in_ok-add-in-Met-clause-queued : goal.returns-in_ok-add-in-Met-clause-queued
 returns-in_ok-add-in-Met-clause-queued c =
@@ -47,7 +50,7 @@ returns-in_ok-add-in-Met-clause-queued c =
     (held-by_candidate _ it.inactive it.met c.add-in-Met.new.self it.followed.items it.kept c.args.trail.now c.args.table.now c.args.requirements.now
     requirement c.clause-literals.result.now index c.in-Met.variable c.requires.queued.following.same c.requires.followed.all
     c.requires.followed.none_else here is c.clause-literals.ensures c.in-Met.ensures)
-    c.requires.queued
+    refl c.requires.queued
 
 pub returns-in-Open-clause-some : goal.returns-in-Open-clause-some
 returns-in-Open-clause-some c =
@@ -59,5 +62,20 @@ returns-in-Open-clause-some c =
     record {
       requirement = requirement;
       listed = (c.index-number.result.now, inside, sym is);
-      chosen = record { number_is = refl; first = rw (sym c.clause-literals.ensures) c.in-Open.ensures };
+      chosen = record {
+        number_is = sym c.choose-in-Open.ensures.choice.0;
+        first = rw (c.choose-in-Open.ensures.choice.0, c.choose-in-Open.ensures.choice.1, sym c.clause-literals.ensures) c.in-Open.ensures;
+      };
     }
+
+pub returns-in-Some-clause-queued : goal.returns-in-Some-clause-queued
+returns-in-Some-clause-queued c =
+    let none : StoredRequirement = record { number = 0; of_root = false } in
+    let inside : c.index-number.result.now < length c.args.requirements.now = omega (arith, c.if-index-requirements.false) in
+    let requirement : StoredRequirement = get_or c.args.requirements.now c.index-number.result.now none in
+    let first : IsFirst c.args.trail.now (clause_at c.args.table.now requirement.number) c.in-Some.first =
+    rw c.clause-literals.ensures at (c.in-Some.ensures (λ last is same.
+    let Since : ℕ → Type 0 = λ i. IsOpenSince c.args.trail.now (clause_at c.args.table.now (get_or c.args.requirements.now i none).number)
+    last.first last.count in
+    rw c.clause-literals.ensures (subst Since same ((c.requires.queued.last last is).is_open none)))) in
+    c.choose.ensures.queued c.args.table.now c.args.requirements.now none inside first c.requires.followed c.requires.queued

@@ -15,10 +15,10 @@ returns-then-is_true-clause-queued c = λ table requirements it.
     (λ index there. subst (Inside index) (sym took) (Contains-append_left c.args.self.now.active.items woken index there))
     others
     (λ index there. inl (subst (Inside index) (sym took) (Contains-append_right c.args.self.now.active.items woken index there)))
-    it
+    refl it
 
 pub returns-clause-queued : goal.returns-clause-queued
 returns-clause-queued c = λ table requirements it.
     queued-follow c.args.self.now _ c.args.trail.now table requirements c.variable_at-variable.result c.requires.all c.requires.inside
     c.variable_at-variable.ensures.value c.in_ok-push.ensures.items refl refl refl (λ index there. there) (λ v differs. refl) (λ index there.
-    inr (there, found-false c.args.trail.now c.variable_at-variable.result c.is_true.result c.is_true.ensures c.if-is_true.false)) it
+    inr (there, found-false c.args.trail.now c.variable_at-variable.result c.is_true.result c.is_true.ensures c.if-is_true.false)) refl it

@@ -19,4 +19,4 @@ returns-clause-queued c = λ table requirements it.
     (c.index-variable.ensures ∙ ap (λ (xs : List ℕ). get_or xs (c.len.result - 1) last) (sym took.followed) ∙
     ap (λ (n : ℕ). get_or mid.followed.items n last) end))
     (sym (append-nil mid.active.items) ∙ ap (λ (xs : List ℕ). mid.active.items ++ xs) (sym took.none))
-    (λ v differs. refl) refl refl refl (took.queued table requirements it)
+    (λ v differs. refl) refl refl refl refl (took.queued table requirements it)
