@@ -77,3 +77,13 @@ keeps_undone old new level undone =
 -- more variables change no entry
 pub keeps_grown : (old new : Trail) (variables : ℕ) → IsGrown old new variables → KeepsPlaces old new (length_of old)
 keeps_grown old new variables grown = keeps_places old new (length_of old) (omega arith) (λ v s at below. grown.slots v ∙ at)
+
+-- a slot at a place that stays was there before
+pub slot-back : (old new : Trail) (count variable : ℕ) (slot : Slot) → KeepsPlaces old new count → slot_of new variable ≡ Some slot → slot.place < count →
+    slot_of old variable ≡ Some slot
+slot-back old new count variable slot keeps at below =
+    let s = slot_at old slot.place (omega (arith, below, keeps.were)) in
+    let named : variable_at old slot.place ≡ variable = sym (keeps.variables slot.place below) ∙ (new.listed variable slot at).1 in
+    let was : slot_of old variable ≡ Some s.0 = ap (λ v. slot_of old v) (sym named) ∙ s.1 in
+    let here : slot_of new variable ≡ Some s.0 = keeps.slots variable s.0 was (omega (arith, s.2, below)) in
+    was ∙ sym here ∙ at

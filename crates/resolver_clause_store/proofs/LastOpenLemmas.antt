@@ -16,18 +16,8 @@ use Rattle.resolver_clause_store.specs.Formula.{clause_at}
 use Rattle.resolver_clause_store.specs.LastOpens.{IsFirstNotFalse, IsLastOpen, IsOpenSince, NoneIsTrueFrom}
 use Rattle.resolver_clause_store.specs.Outcomes.{IsFalseBefore, IsMet}
 use Rattle.resolver_clause_store.specs.TrailView.{KeepsPlaces, length_of, literal_value, slot_of, variable_at}
-use Rattle.resolver_clause_store.proofs.KeptLemmas.{slot_at}
+use Rattle.resolver_clause_store.proofs.KeptLemmas.{slot-back}
 use Rattle.resolver_clause_store.proofs.TrailLemmas.{false-before, value-true}
-
--- a slot at a place that stays was there before
-pub slot-back : (old new : Trail) (count variable : ℕ) (slot : Slot) → KeepsPlaces old new count → slot_of new variable ≡ Some slot → slot.place < count →
-    slot_of old variable ≡ Some slot
-slot-back old new count variable slot keeps at below =
-    let s = slot_at old slot.place (omega (arith, below, keeps.were)) in
-    let named : variable_at old slot.place ≡ variable = sym (keeps.variables slot.place below) ∙ (new.listed variable slot at).1 in
-    let was : slot_of old variable ≡ Some s.0 = ap (λ v. slot_of old v) (sym named) ∙ s.1 in
-    let here : slot_of new variable ≡ Some s.0 = keeps.slots variable s.0 was (omega (arith, s.2, below)) in
-    was ∙ sym here ∙ at
 
 -- a property of the literal at a place
 any-at : (P : Literal → Type 0) (clause : List Literal) (k : ℕ) (d : Literal) → k < length clause → P (get_or clause k d) → Any P clause

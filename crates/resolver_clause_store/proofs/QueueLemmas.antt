@@ -21,8 +21,8 @@ use Rattle.resolver_clause_store.specs.Formula.{clause_at}
 use Rattle.resolver_clause_store.specs.LastOpens.{IsLastOpen, IsOpenSince}
 use Rattle.resolver_clause_store.specs.Outcomes.{IsMet}
 use Rattle.resolver_clause_store.specs.TrailView.{KeepsPlaces, length_of, literal_value, slot_of, variable_at}
-use Rattle.resolver_clause_store.proofs.KeptLemmas.{slot_at}
-use Rattle.resolver_clause_store.proofs.LastOpenLemmas.{last-add, last-cut, last-grown, last-same, open-now, slot-back}
+use Rattle.resolver_clause_store.proofs.KeptLemmas.{slot-back, slot_at}
+use Rattle.resolver_clause_store.proofs.LastOpenLemmas.{last-add, last-cut, last-grown, last-same, open-now}
 use Rattle.resolver_clause_store.proofs.ListLemmas.{Contains-here, Contains-there}
 use Rattle.resolver_clause_store.proofs.TrailLemmas.{value-true}
 use Rattle.resolver_clause_store.specs.declared.last_open.LastOpen.{LastOpen}

@@ -24,7 +24,7 @@ use Rattle.resolver_clause_store.specs.declared.Reason.TheVariants.{Assumed, Dec
 use Rattle.resolver_clause_store.specs.declared.Slot.{Slot}
 use Rattle.resolver_clause_store.specs.declared.SoftRequirement.{SoftRequirement}
 use Rattle.resolver_clause_store.specs.declared.Trail.{Trail}
-use Rattle.resolver_clause_store.proofs.KeptLemmas.{keeps_all, keeps_places, keeps_through, slot_at}
+use Rattle.resolver_clause_store.proofs.KeptLemmas.{keeps_all, keeps_places, keeps_through, slot-back as keeps-back, slot_at}
 use Rattle.resolver_clause_store.proofs.PlaceLemmas.{Keeps-same, Keeps-trans}
 use Rattle.resolver_clause_store.proofs.SlotLemmas.{slot-within}
 use Rattle.resolver_clause_store.proofs.TrailLemmas.{gains-cases, keeps-gains}
@@ -56,7 +56,6 @@ use Rattle.resolver_encoding.proofs.ReachLemmas.{asked_named}
 use Rattle.resolvo.proofs.GoingLemmas.{assumed_still}
 use Rattle.resolvo.proofs.RefusingLemmas.{trail_agrees}
 use Rattle.resolver_clause_store.proofs.ListLemmas.{Contains-cons_cases as cons_cases, Contains-here as here, Contains-none as none_in, Contains-there as there}
-use Rattle.resolver_clause_store.proofs.QueueLemmas.{slot-back as keeps-back}
 use Rattle.std.proofs.lemmas.List.Elements.{Contains-push as last_in}
 use Rattle.resolvo.proofs.TurnLemmas.{decided-assumed}
 

@@ -14,7 +14,7 @@ use Rattle.resolver_clause_store.specs.Outcomes.{IsFalseBefore, IsImplied}
 use Rattle.resolver_clause_store.specs.Slots.{is_decided}
 use Rattle.resolver_clause_store.specs.TrailView.{Gains, IsCut, IsGrown, IsTop, IsUndone, KeepsPlaces, length_of, level_of, slot_of, variable_at}
 use Rattle.resolver_clause_store.specs.TrailView.{variable_count}
-use Rattle.resolver_clause_store.proofs.KeptLemmas.{keeps_all, keeps_grown, keeps_places, keeps_through, keeps_trans, slot_at}
+use Rattle.resolver_clause_store.proofs.KeptLemmas.{keeps_all, keeps_grown, keeps_places, keeps_through, keeps_trans, slot-back as keeps-back, slot_at}
 use Rattle.resolver_clause_store.proofs.SlotLemmas.{level-last, none-from}
 use Rattle.resolver_clause_store.proofs.TrailLemmas.{Keeps, gains-cases, keeps-gains, value-false}
 use Rattle.resolvo.specs.declared.analyze.Learnt.{Learnt}
@@ -33,7 +33,7 @@ use Rattle.resolvo.proofs.JustifiedLemmas.{chosen-kept, justified-decides}
 use Rattle.resolvo.proofs.LevelLemmas.{level-in}
 use Rattle.resolver_clause_store.specs.declared.DecideQueue.{DecideQueue}
 use Rattle.resolver_clause_store.specs.Queues.{IsQueued}
-use Rattle.resolver_clause_store.proofs.QueueLemmas.{places-fewer as keeps-fewer, slot-back as keeps-back}
+use Rattle.resolver_clause_store.proofs.QueueLemmas.{places-fewer as keeps-fewer}
 use Rattle.resolver_clause_store.proofs.QueueLemmas.{queued-left, queued-longer}
 
 pub first-held : (old new : Trail) (held : ℕ) → KeepsPlaces old new held → KeepsFirst old held new held
