@@ -1,10 +1,11 @@
 //! The requirement that was last found left to decide.
 
-ghost use Rattle.std.specs.Prelude.{◌≡◌, ◌≤◌, IfSome, Some, true};
+ghost use Rattle.std.specs.Prelude.{◌<◌, ◌≡◌, ◌≤◌, ℕ, IfSome, MatchBool, MatchOption, Some, false, length, slice_index_or};
 ghost use Rattle.resolver_clause_store.specs.Decisions.{IsFirst};
 ghost use Rattle.resolver_clause_store.specs.Formula.{IsBelow};
 ghost use Rattle.resolver_clause_store.specs.LastOpens.{IsFirstNotFalse, IsOpenSince, NoneIsTrueFrom};
-ghost use Rattle.resolver_clause_store.specs.TrailView.{length_of, variable_count};
+ghost use Rattle.resolver_clause_store.specs.TrailView.{length_of, literal_value, variable_count};
+ghost use Rattle.resolver_clause_store.specs.declared.literals.Literal.{Literal};
 
 use crate::literals::Literal;
 use crate::trail::Trail;
@@ -24,7 +25,7 @@ pub struct LastOpen {
 
 /// Returns this requirement, if the trail still has the entries that it had then. The first `kept` entries are unchanged.
 pub fn unless_cut(last: Option<LastOpen>, kept: usize) -> Option<LastOpen>
-    ensures { IfSome result (λ left. (last ≡ Some left) × (left.count ≤ kept)) }
+    ensures { MatchOption result (IfSome last (λ lost. kept < lost.count)) (λ left. (last ≡ Some left) × (left.count ≤ kept)) }
 {
     match last {
         Some(left) => {
@@ -39,7 +40,7 @@ pub fn unless_cut(last: Option<LastOpen>, kept: usize) -> Option<LastOpen>
 
 /// Returns whether no variable from a place of the trail on is true.
 fn none_is_true_from(trail: &Trail, from: usize) -> bool
-    ensures { result ≡ true → NoneIsTrueFrom trail.now from (length_of trail.now) }
+    ensures { MatchBool result (NoneIsTrueFrom trail.now from (length_of trail.now)) (NoneIsTrueFrom trail.now from (length_of trail.now) → ⊥) }
 {
     'places: for place in from..trail.len() {
         let variable = trail.variable_at(place);
@@ -56,7 +57,8 @@ fn none_is_true_from(trail: &Trail, from: usize) -> bool
 /// Returns the place of the first literal from a place on that is not false.
 fn first_not_false(trail: &Trail, clause: &[Literal], from: usize) -> Option<usize>
     requires { IsBelow (variable_count trail.now) clause.now }
-    ensures { IfSome result (IsFirstNotFalse trail.now clause.now from) }
+    ensures { MatchOption result ((k : ℕ) (d : Literal) → from ≤ k → k < length clause.now → literal_value trail.now (slice_index_or clause.now k d) ≡ Some false)
+        (IsFirstNotFalse trail.now clause.now from) }
 {
     'places: for place in from..clause.len() {
         if !trail.is_false(clause[place]) {
