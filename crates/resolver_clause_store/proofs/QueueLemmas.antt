@@ -29,7 +29,7 @@ use Rattle.resolver_clause_store.specs.declared.last_open.LastOpen.{LastOpen}
 use Rattle.resolver_clause_store.specs.declared.parked.ParkedLists.{ParkedLists}
 use Rattle.resolver_clause_store.specs.ListPools.{list_of}
 use Rattle.resolver_clause_store.specs.declared.queue.DecideQueue.{DecideQueue}
-use Rattle.resolver_clause_store.specs.Queues.{IsFollowed, IsHeld, IsMetBy, IsQueued, IsInactive}
+use Rattle.resolver_clause_store.specs.Queues.{IsFollowed, IsFollowing, IsHeld, IsMetBy, IsQueued, IsInactive}
 use Rattle.resolver_clause_store.specs.Requirers.{AreRequirers, requirer_of}
 use Rattle.resolver_clause_store.specs.declared.requirers.Requirers.{Requirers}
 
@@ -134,17 +134,22 @@ pub queued-kept : (it : DecideQueue) (before after : Trail) (table : List (List 
 queued-kept it before after table requirements keeps queued = queued-cut it it before after table requirements refl refl refl refl refl (omega arith)
     (λ last is. (is, (queued.last last is).count)) keeps queued
 
+-- the queue follows the trail while what it has followed stays
+following-same : (old new : DecideQueue) (trail : Trail) → new.followed.items ≡ old.followed.items → new.kept ≡ old.kept → IsFollowing old trail →
+    IsFollowing new trail
+following-same old new trail followed kept it = record {
+  followed = omega (arith, kept, it.followed, ap length followed);
+  reached = omega (arith, kept, it.reached);
+  same = λ place below. ap (λ list. slice_index list place) followed ∙ it.same place (omega (arith, below, kept));
+}
+
 -- other parts of the queue change
 pub queued-same : (old new : DecideQueue) (trail : Trail) (table : List (List Literal)) (requirements : List StoredRequirement) →
     new.active.items ≡ old.active.items → new.inactive ≡ old.inactive → new.met ≡ old.met → new.requirers ≡ old.requirers →
     new.followed.items ≡ old.followed.items → new.kept ≡ old.kept → new.last ≡ old.last → IsQueued old trail table requirements →
     IsQueued new trail table requirements
 queued-same old new trail table requirements active inactive met requirers followed kept last it = record {
-  following = record {
-    followed = omega (arith, kept, it.following.followed, ap length followed);
-    reached = omega (arith, kept, it.following.reached);
-    same = λ place below. ap (λ list. slice_index list place) followed ∙ it.following.same place (omega (arith, below, kept));
-  };
+  following = following-same old new trail followed kept it.following;
   requirers = requirers-same old.requirers new.requirers table requirements requirers it.requirers;
   each = λ index d below. rw (active, inactive, met, followed, kept) (it.each index d below);
   last = last-same old.last new.last old.kept new.kept trail table requirements last (omega (arith, kept)) it.last;
@@ -185,11 +190,7 @@ pub queued-open : (old new : DecideQueue) (trail : Trail) (table : List (List Li
     last.requirement < length requirements → IsFirst trail (clause_at table (get_or requirements last.requirement d).number) last.first →
     old.kept ≡ length_of trail → IsQueued old trail table requirements → IsQueued new trail table requirements
 queued-open old new trail table requirements d last active inactive met requirers followed kept found count inside first all it = record {
-  following = record {
-    followed = omega (arith, kept, it.following.followed, ap length followed);
-    reached = omega (arith, kept, it.following.reached);
-    same = λ place below. ap (λ list. slice_index list place) followed ∙ it.following.same place (omega (arith, below, kept));
-  };
+  following = following-same old new trail followed kept it.following;
   requirers = requirers-same old.requirers new.requirers table requirements requirers it.requirers;
   each = λ index d below. rw (active, inactive, met, followed, kept) (it.each index d below);
   last = λ one is.
@@ -209,11 +210,7 @@ pub queued-add : (old new : DecideQueue) (trail : Trail) (table : List (List Lit
     new.met ≡ old.met → new.requirers ≡ old.requirers → new.followed.items ≡ old.followed.items → new.kept ≡ old.kept → new.last ≡ old.last →
     IsQueued old trail table requirements → IsQueued new trail table (requirements ++ requirement ∷ [])
 queued-add old new trail table requirements requirement last end active inactive met requirers followed kept last_same it = record {
-  following = record {
-    followed = omega (arith, kept, it.following.followed, ap length followed);
-    reached = omega (arith, kept, it.following.reached);
-    same = λ place below. ap (λ list. slice_index list place) followed ∙ it.following.same place (omega (arith, below, kept));
-  };
+  following = following-same old new trail followed kept it.following;
   requirers = requirers-add new.requirers table requirements requirement
       (requirers-same old.requirers new.requirers table requirements requirers it.requirers);
   each = λ index d below. rw (active, inactive, met, followed, kept) (⊎_elim
@@ -372,11 +369,7 @@ pub queued-settled : (old new : DecideQueue) (trail : Trail) (table : List (List
     IsHeld new.active.items new.inactive new.met new.followed.items new.kept trail (clause_at table (get_or requirements settled d).number) settled) →
     new.last ≡ old.last → IsQueued old trail table requirements → IsQueued new trail table requirements
 queued-settled old new trail table requirements settled followed kept requirers active inactive met here last it = record {
-  following = record {
-    followed = omega (arith, kept, it.following.followed, ap length followed);
-    reached = omega (arith, kept, it.following.reached);
-    same = λ place below. ap (λ list. slice_index list place) followed ∙ it.following.same place (omega (arith, below, kept));
-  };
+  following = following-same old new trail followed kept it.following;
   requirers = requirers;
   each = λ index d below. ⊎_elim
       (λ (there : Contains old.active.items index). ⊎_elim
@@ -427,11 +420,7 @@ pub queued-taken : (old new : DecideQueue) (trail : Trail) (table : List (List L
     Contains new.active.items number ⊎ IsInactive new.inactive trail new.kept (clause_at table (get_or requirements number d).number) number) →
     new.last ≡ old.last → IsQueued old trail table requirements → IsQueued new trail table requirements
 queued-taken old new trail table requirements candidate number taken others requirers followed kept active inactive here last it = record {
-  following = record {
-    followed = omega (arith, kept, it.following.followed, ap length followed);
-    reached = omega (arith, kept, it.following.reached);
-    same = λ place below. ap (λ list. slice_index list place) followed ∙ it.following.same place (omega (arith, below, kept));
-  };
+  following = following-same old new trail followed kept it.following;
   requirers = requirers-same old.requirers new.requirers table requirements requirers it.requirers;
   each = λ index d below. ⊎_elim
       (λ (there : Contains old.active.items index). inl (active index there))

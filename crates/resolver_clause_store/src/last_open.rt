@@ -55,7 +55,7 @@ fn none_is_true_from(trail: &Trail, from: usize) -> bool
 }
 
 /// Returns the place of the first literal from a place on that is not false.
-fn first_not_false(trail: &Trail, clause: &[Literal], from: usize) -> Option<usize>
+pub fn first_not_false(trail: &Trail, clause: &[Literal], from: usize) -> Option<usize>
     requires { IsBelow (variable_count trail.now) clause.now }
     ensures { MatchOption result ((k : ℕ) (d : Literal) → from ≤ k → k < length clause.now → literal_value trail.now (slice_index_or clause.now k d) ≡ Some false)
         (IsFirstNotFalse trail.now clause.now from) }

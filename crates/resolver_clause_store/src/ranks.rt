@@ -1,13 +1,14 @@
 //! The order in which active requirements are decided.
 
 ghost use Rattle.std.specs.Prelude.{◌<◌, ◌≡◌, ◌+◌, All, IfNone, IfOk, IfSome, length};
-ghost use Rattle.resolver_clause_store.specs.Formula.{AreBelow};
+ghost use Rattle.resolver_clause_store.specs.Formula.{AreBelow, IsBelow};
 ghost use Rattle.resolver_clause_store.specs.TrailView.{variable_count};
 ghost use Rattle.resolver_clause_store.specs.declared.clauses.StoredRequirement.{StoredRequirement};
-ghost use Rattle.resolver_clause_store.specs.Settled.{AllSettled};
+ghost use Rattle.resolver_clause_store.specs.Settled.{AllSettled, IsSettled};
 
 use crate::clauses::{Clauses, StoredRequirement, clause};
 use crate::decisions::open_count;
+use crate::last_open::first_not_false;
 use crate::lists::Lists;
 use crate::literals::{Literal, Variable};
 use crate::numbers::narrow;
@@ -18,7 +19,10 @@ use crate::trail::Trail;
 use crate::union_ends::UnionEnds;
 use std::alloc::{AllocError, Global};
 use std::cmp::Reverse;
-use std::collections::BinaryHeap;
+use std::collections::{BinaryHeap, HashMap};
+
+/// The number of literals of a clause from which on the count of its open candidates is remembered.
+const MANY: usize = 32;
 
 /// The rank of a requirement among those whose packages have the same score.
 ///
@@ -79,6 +83,70 @@ pub struct Entry {
     is_union: bool,
 }
 
+/// Whether the requirements of a package have to be ranked again.
+#[derive(Clone, Copy, PartialEq, Eq)]
+pub enum Noted {
+    /// They need not.
+    No,
+    /// They have to, since one of its variables got or lost a value, once.
+    Once,
+    /// They have to, for more than that.
+    More,
+}
+
+/// A package whose requirements have to be ranked again, and the variable for which that was noted first.
+#[derive(Clone, Copy)]
+pub struct Touched {
+    package: usize,
+    variable: Variable,
+}
+
+/// The changes of a package's variables.
+#[derive(Clone, Copy)]
+pub struct Changes {
+    /// Their number, counted round 2^32 and rounded up.
+    count: u32,
+    /// The variable of the last one, if it is known.
+    last: Option<Variable>,
+}
+
+/// The candidates of a requirement that have no value, of the version set that is tried next.
+#[derive(Clone, Copy)]
+pub struct OpenCandidates {
+    /// The place of the first one in the clause.
+    first: u32,
+    count: u32,
+    /// The number of changes of their package when they were counted.
+    changes: u32,
+}
+
+/// Returns the open candidates of a requirement that is no union, if they are as they were counted before, or if the first of them has
+/// become false and nothing else has changed in their package.
+fn still_counted(
+    trail: &Trail,
+    literals: &[Literal],
+    counted: &OpenCandidates,
+    changes: &Changes,
+) -> Option<OpenCandidates>
+    requires { IsBelow (variable_count trail.now) literals.now }
+{
+    if changes.count == counted.changes {
+        return Some(*counted);
+    }
+    let first = counted.first as usize;
+    let literal = literals.get(first)?;
+    let is_next = changes.count == counted.changes.wrapping_add(1);
+    if !is_next || changes.last != Some(literal.variable) || !trail.is_false(literals[first]) {
+        return None;
+    }
+    let next = first_not_false(trail, literals, first)?;
+    Some(OpenCandidates {
+        first: u32::try_from(next).ok()?,
+        count: counted.count.wrapping_sub(1),
+        changes: changes.count,
+    })
+}
+
 /// Notes that a requirement has to be ranked again, if it is active.
 fn change_active(
     entries: &mut Vec<Entry>,
@@ -102,7 +170,7 @@ fn change_active(
 /// The ranks of active requirements.
 ///
 /// A requirement is ranked again when a variable of one of its packages gets or loses its value, and when the score of
-/// such a package grows. Nothing is proved of the order, and nothing depends on it: the queue looks at each requirement
+/// such a package grows. If its candidates became false one after another, they need not be counted again for that. Nothing is proved of the order, and nothing depends on it: the queue looks at each requirement
 /// before it is decided.
 #[derive(Drop)]
 pub struct Ranks {
@@ -116,8 +184,12 @@ pub struct Ranks {
     /// The requirements that have a candidate of a package, by the package's number.
     asking: Lists,
     /// The packages whose requirements have to be ranked again.
-    touched: Vec<usize>,
-    is_touched: Vec<bool>,
+    touched: Vec<Touched>,
+    noted: Vec<Noted>,
+    /// The changes of packages of which requirements have many candidates, by the package's number.
+    changes: Vec<Changes>,
+    /// The open candidates of requirements with many, as they were counted last.
+    counted: HashMap<u32, OpenCandidates>,
     /// The requirements that have to be ranked again.
     changed: Vec<u32>,
     /// The ranks whose packages have a score, in no order.
@@ -137,7 +209,9 @@ impl Ranks {
             ends: UnionEnds::new(alloc),
             asking: Lists::new(alloc),
             touched: Vec::new(alloc),
-            is_touched: Vec::new(alloc),
+            noted: Vec::new(alloc),
+            changes: Vec::new(alloc),
+            counted: HashMap::new(alloc),
             changed: Vec::new(alloc),
             scored: Vec::new(alloc),
             unscored: BinaryHeap::new(alloc),
@@ -174,7 +248,27 @@ impl Ranks {
         'literals: for literal in literals {
             last = self.add_candidate(requirement, *literal, last)?;
         }
+        if MANY <= literals.len() {
+            self.begin_changes(last)?;
+        }
         Ok(())
+    }
+
+    /// Begins to count the changes of a package.
+    fn begin_changes(&mut self, owner: Owner) -> Result<(), AllocError> {
+        match owner.number() {
+            Some(number) => {
+                if self.changes.len() <= number {
+                    let nothing = Changes {
+                        count: 0,
+                        last: None,
+                    };
+                    self.changes.resize(number + 1, nothing)?;
+                }
+                Ok(())
+            }
+            None => Ok(()),
+        }
     }
 
     /// Notes the places after the candidates of each version set of a requirement, if it is a union.
@@ -226,24 +320,36 @@ impl Ranks {
         }
     }
 
-    /// Notes that the score of a package grew, or that one of its variables got or lost its value.
-    fn touch_package(&mut self, number: usize) -> Result<(), AllocError> {
-        'packages: while self.is_touched.len() <= number {
-            self.is_touched.push(false)?;
+    /// Notes that the requirements of a package have to be ranked again.
+    fn touch_package(
+        &mut self,
+        package: usize,
+        variable: Variable,
+        noted: Noted,
+    ) -> Result<(), AllocError> {
+        'packages: while self.noted.len() <= package {
+            self.noted.push(Noted::No)?;
         }
-        if self.is_touched[number] {
+        if self.noted[package] == Noted::No {
+            self.touched.push(Touched { package, variable })?;
+            self.noted[package] = noted;
             return Ok(());
         }
-        self.touched.push(number)?;
-        self.is_touched[number] = true;
+        self.noted[package] = Noted::More;
         Ok(())
     }
 
-    /// Returns whether a package is noted as touched.
+    /// Notes one more change of a package, if one is noted. Returns whether one is.
     #[inline(always)]
-    fn has_touched(&self, number: usize) -> bool {
-        match self.is_touched.get(number) {
-            Some(is_touched) => *is_touched,
+    fn note_more(&mut self, package: usize) -> bool {
+        match self.noted.get_mut(package) {
+            Some(noted) => {
+                if *noted == Noted::No {
+                    return false;
+                }
+                *noted = Noted::More;
+                true
+            }
             None => false,
         }
     }
@@ -254,9 +360,9 @@ impl Ranks {
     #[inline(always)]
     pub fn touch(&mut self, variable: Variable) -> Result<(), AllocError> {
         match self.owner_of(variable).number() {
-            Some(number) => {
-                if !self.has_touched(number) {
-                    self.touch_package(number)?;
+            Some(package) => {
+                if !self.note_more(package) {
+                    self.touch_package(package, variable, Noted::Once)?;
                 }
                 Ok(())
             }
@@ -269,7 +375,7 @@ impl Ranks {
         match self.owner_of(variable).number() {
             Some(number) => {
                 self.scores.add(number, self.learnt)?;
-                self.touch_package(number)?;
+                self.touch_package(number, variable, Noted::More)?;
                 Ok(())
             }
             None => Ok(()),
@@ -342,12 +448,26 @@ impl Ranks {
         }
     }
 
-    /// Notes that the active requirements of a package have to be ranked again.
-    fn spread_package(&mut self, active: &[u32], number: usize) -> Result<(), AllocError> {
-        if number < self.is_touched.len() {
-            self.is_touched[number] = false;
+    /// Counts the changes of a package's variables that were noted.
+    fn count_changes(&mut self, touched: &Touched, noted: Noted) {
+        if let Some(changes) = self.changes.get_mut(touched.package) {
+            if noted == Noted::Once {
+                changes.count = changes.count.wrapping_add(1);
+                changes.last = Some(touched.variable);
+                return;
+            }
+            changes.count = changes.count.wrapping_add(2);
         }
-        'requirements: for requirement in self.asking.at(number) {
+    }
+
+    /// Notes that the active requirements of a package have to be ranked again.
+    fn spread_package(&mut self, active: &[u32], touched: &Touched) -> Result<(), AllocError> {
+        if touched.package < self.noted.len() {
+            let noted = self.noted[touched.package];
+            self.noted[touched.package] = Noted::No;
+            self.count_changes(touched, noted);
+        }
+        'requirements: for requirement in self.asking.at(touched.package) {
             change_active(&mut self.entries, &mut self.changed, active, *requirement)?;
         }
         Ok(())
@@ -357,7 +477,7 @@ impl Ranks {
     fn spread(&mut self, active: &[u32]) -> Result<(), AllocError> {
         'packages: for _ in 0..self.touched.len() {
             match self.touched.pop() {
-                Some(number) => self.spread_package(active, number)?,
+                Some(touched) => self.spread_package(active, &touched)?,
                 None => (),
             }
         }
@@ -407,6 +527,90 @@ impl Ranks {
         }
     }
 
+    /// Returns the changes of a variable's package, if they are counted.
+    fn changes_of(&self, variable: Variable) -> Option<Changes> {
+        let changes = self.changes.get(self.owner_of(variable).number()?)?;
+        Some(*changes)
+    }
+
+    /// Returns the open candidates of a requirement, if they were remembered and are known still.
+    fn known_open(
+        &self,
+        trail: &Trail,
+        literals: &[Literal],
+        requirement: u32,
+    ) -> Option<OpenCandidates>
+        requires { IsBelow (variable_count trail.now) literals.now }
+    {
+        if self.is_union(requirement) {
+            return None;
+        }
+        let counted = self.counted.get(&requirement)?;
+        let literal = literals.get(counted.first as usize)?;
+        still_counted(trail, literals, counted, &self.changes_of(literal.variable)?)
+    }
+
+    /// Remembers the open candidates of a requirement. `first` is the place of the first one in its clause.
+    fn remember_open(
+        &mut self,
+        literals: &[Literal],
+        requirement: u32,
+        first: usize,
+        count: u32,
+    ) -> Result<(), AllocError>
+        requires first { first < length literals.now }
+        ensures entries { length self.new.entries.items ≡ length self.old.entries.items }
+        ensures changed { self.new.changed.items ≡ self.old.changed.items }
+    {
+        if let Some(changes) = self.changes_of(literals[first].variable) {
+            let open = OpenCandidates {
+                first: narrow(first)?,
+                count,
+                changes: changes.count,
+            };
+            self.counted.insert(requirement, open)?;
+        }
+        Ok(())
+    }
+
+    /// Returns the place of the first open candidate of a requirement, and how many there are in its version set. Returns `None` if there is
+    /// nothing to decide for it.
+    #[inline(always)]
+    fn open_candidates(
+        &mut self,
+        trail: &Trail,
+        literals: &[Literal],
+        requirement: u32,
+    ) -> Result<Option<(usize, u32)>, AllocError>
+        requires below { IsBelow (variable_count trail.now) literals.now }
+        requires settled { IsSettled trail.now literals.now }
+        ensures inside { IfOk result (λ answer. IfSome answer (λ found. found.0 < length literals.now)) }
+        ensures entries { length self.new.entries.items ≡ length self.old.entries.items }
+        ensures changed { self.new.changed.items ≡ self.old.changed.items }
+    {
+        if MANY <= literals.len()
+            && let Some(open) = self.known_open(trail, literals, requirement)
+        {
+            let first = open.first as usize;
+            if first < literals.len() {
+                self.counted.insert(requirement, open)?;
+                return Ok(Some((first, open.count)));
+            }
+        }
+        match standing_of(trail, literals) {
+            Standing::Open { first, count } => {
+                let open = open_count(trail, literals, self.ends_of(requirement), first, count);
+                let count = narrow(open)?;
+                if MANY <= literals.len() {
+                    self.remember_open(literals, requirement, first, count)?;
+                }
+                Ok(Some((first, count)))
+            }
+            Standing::Inactive(_) => Ok(None),
+            Standing::Met(_) => Ok(None),
+        }
+    }
+
     /// Ranks a requirement again. If it is active and there is nothing to decide for it, its place is returned.
     fn rank(
         &mut self,
@@ -427,31 +631,23 @@ impl Ranks {
             return Ok(None);
         }
         self.entries[index].is_changed = false;
-        match self.place_of(active, requirement) {
-            None => Ok(None),
-            Some(place) => {
-                let literals = clause(table, requirements[index].number as usize);
-                match standing_of(trail, literals) {
-                    Standing::Open { first, count } => {
-                        let edition = self.entries[index].edition.wrapping_add(1);
-                        self.entries[index].edition = edition;
-                        let ends = self.ends_of(requirement);
-                        let open = open_count(trail, literals, ends, first, count);
-                        let count = narrow(open)?;
-                        self.put(Rank {
-                            is_later: !requirements[index].of_root,
-                            count,
-                            requirement,
-                            owner: self.owner_of(literals[first].variable),
-                            edition,
-                        })?;
-                        Ok(None)
-                    }
-                    Standing::Inactive(_) => Ok(Some(place)),
-                    Standing::Met(_) => Ok(Some(place)),
-                }
-            }
-        }
+        let Some(place) = self.place_of(active, requirement) else {
+            return Ok(None);
+        };
+        let literals = clause(table, requirements[index].number as usize);
+        let Some((first, count)) = self.open_candidates(trail, literals, requirement)? else {
+            return Ok(Some(place));
+        };
+        let edition = self.entries[index].edition.wrapping_add(1);
+        self.entries[index].edition = edition;
+        self.put(Rank {
+            is_later: !requirements[index].of_root,
+            count,
+            requirement,
+            owner: self.owner_of(literals[first].variable),
+            edition,
+        })?;
+        Ok(None)
     }
 
     /// Returns whether a rank is the latest one of an active requirement.

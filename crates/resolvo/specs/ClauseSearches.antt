@@ -17,6 +17,7 @@ use Rattle.resolvo.specs.Propagation.{AreChosen, AssumesNone, IsJustified}
 use Rattle.resolvo.specs.Propagators.{IsPropagator}
 use Rattle.resolvo.specs.Derivations.{AreGiven, IsDerived, given_at}
 use Rattle.resolvo.specs.Resolvents.{IsFalseAt}
+use Rattle.resolvo.specs.Steps.{EndsDecided, HasNoNext}
 use Rattle.resolver_clause_store.specs.Queues.{IsQueued}
 
 -- the trail, which has the values that were found
@@ -162,3 +163,11 @@ abbrev pub OutcomeIs : List (List Literal) → List ℕ → Trail → ℕ → Ou
 OutcomeIs given numbers trail base Finished = (requirements : List RequirementClause) → numbers_of requirements ≡ numbers → IsFinished given requirements trail
 OutcomeIs given numbers trail base (Contradiction core) = IsCore given core.items
 OutcomeIs given numbers trail base Refused = IsRefused given trail base
+
+-- the last thing that the search did is a decision
+abbrev pub HasDecided : ClauseSearch → Type 0
+HasDecided search = EndsDecided (trail_of search) search.table search.requirements.items
+
+-- the search has nothing to decide as it stands
+abbrev pub IsStalled : ClauseSearch → Type 0
+IsStalled search = HasNoNext (trail_of search) search.table search.requirements.items

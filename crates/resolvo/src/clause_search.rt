@@ -1,7 +1,7 @@
 //! A search over clauses: it decides and propagates, learns from conflicts, and backtracks.
 
 ghost use Rattle.std.specs.Prelude.{◌<◌, ◌≡◌, ◌≤◌, ◌+◌, ◌++◌, ◌∷◌, ◌⊎◌, ◌-◌, [], ℕ, All, IfErr, IfNone, IfOk, IfSome, List, None, OnErr, OnOk, Vec, length};
-ghost use Rattle.std.specs.Prelude.{max, true, if◌then◌else◌};
+ghost use Rattle.std.specs.Prelude.{false, max, true, if◌then◌else◌};
 ghost use Rattle.std.specs.declared.alloc.Global.{Global};
 ghost use Rattle.resolver_clause_store.specs.Formula.{AreBelow, IsBelow, clause_at};
 ghost use Rattle.resolver_clause_store.specs.Interruptions.{IsInterruption};
@@ -21,7 +21,7 @@ ghost use Rattle.resolver_clause_store.specs.Settled.{AllSettled};
 ghost use Rattle.resolver_clause_store.specs.WatchesView.{pairs_of};
 ghost use Rattle.resolvo.specs.Propagators.{IsPropagator};
 ghost use Rattle.resolvo.specs.Returning.{IsBelowHighest, TakesBack};
-ghost use Rattle.resolvo.specs.Steps.{StepIs};
+ghost use Rattle.resolvo.specs.Steps.{EndsDecided, HasNoNext, StepIs, Takes};
 ghost use Rattle.resolvo.specs.declared.propagator.Propagator.{Propagator};
 ghost use Rattle.resolvo.specs.WatchedClauses.{AreInLists, AreOwned};
 ghost use Rattle.resolver_clause_store.specs.Queues.{IsQueued};
@@ -90,6 +90,7 @@ pub fn take(trail: &mut Trail, table: &Clauses, choice: Choice) -> Result<(), Al
     ensures chosen { OnOk result ((requirements : List StoredRequirement) → IsChoice trail.old table.now requirements choice →
         AreChosen table.now requirements trail.old → AreChosen table.now requirements trail.new) }
     ensures size { OnOk result (variable_count trail.new ≡ variable_count trail.old) }
+    ensures taken { OnOk result (Takes trail.old trail.new table.now choice) }
     ensures fewer { OnOk result (open_count trail.new < open_count trail.old) }
     ensures kept { OnOk result (KeepsPlaces trail.old trail.new (length_of trail.old)) }
     ensures assumed { OnOk result (AssumesNone trail.old trail.new) }
@@ -178,6 +179,8 @@ fn take_next<D: DependencyProvider>(
     ensures size { OnOk result (variable_count trail.new ≡ variable_count trail.old) }
     ensures kept { OnOk result (KeepsPlaces trail.old trail.new (length_of trail.old)) }
     ensures assumed { OnOk result (AssumesNone trail.old trail.new) }
+    ensures taken { IfOk result (λ is_taken. is_taken ≡ true → EndsDecided trail.new table.now requirements.now) }
+    ensures none { IfOk result (λ is_taken. is_taken ≡ false → HasNoNext trail.new table.now requirements.now) }
     ensures fewer { IfOk result (λ is_taken. is_taken ≡ true → open_count trail.new < open_count trail.old) }
     ensures queued { OnOk result (IsQueued queue.new trail.new table.now requirements.now) }
     ensures refusal { IfErr result (IsInterruption (D.may_cancel provider.now)) }
@@ -262,7 +265,7 @@ impl ClauseSearch {
     ghost use Rattle.resolvo.specs.ClauseSearches.{IsConsistent, IsBacktrack, IsLoaded, IsRootTurn};
     ghost use Rattle.resolvo.specs.ClauseSearches.{IsSameProblem, IsSameSearch, SetsNone, StaysBookmarked, KeepsLoaded};
     ghost use Rattle.resolvo.specs.ClauseSearches.{KeepsBookmark, KeepsTurn, OutcomeIs, base_of, clause_count_of, held_of, kept_of, learnt_count_of};
-    ghost use Rattle.resolvo.specs.ClauseSearches.{numbers_of, trail_of};
+    ghost use Rattle.resolvo.specs.ClauseSearches.{HasDecided, IsStalled, numbers_of, trail_of};
 
     /// Returns a search without variables and clauses. The activity has the parameters of its scores.
     pub fn new(alloc: Global, activity: Activity) -> Self
@@ -695,6 +698,8 @@ impl ClauseSearch {
         ensures consistent { OnOk result (IsConsistent self.new) }
         ensures same { OnOk result (IsSameProblem self.old self.new) }
         ensures learnt { OnOk result (learnt_count_of self.new ≡ learnt_count_of self.old) }
+        ensures made { IfOk result (λ is_made. is_made ≡ true → HasDecided self.new) }
+        ensures none { IfOk result (λ is_made. is_made ≡ false → IsStalled self.new) }
         ensures fewer { IfOk result (λ is_made. is_made ≡ true → open_count (trail_of self.new) < open_count (trail_of self.old)) }
         ensures refusal { IfErr result (IsInterruption (D.may_cancel provider.now)) }
     {

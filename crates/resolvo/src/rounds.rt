@@ -3,9 +3,9 @@
 mod soft_turns;
 
 ghost use Rattle.std.specs.Iterator.{Drains, IsFinite};
-ghost use Rattle.std.specs.Prelude.{◌≡◌, ◌+◌, ◌++◌, ◌∷◌, ◌≤◌, ◌<◌, ◌^◌, [], Contains, IfErr, IfNone, IfOk, IfSome, List, None, OnOk, Some, false, length, map};
+ghost use Rattle.std.specs.Prelude.{◌≡◌, ◌+◌, ◌++◌, ◌∷◌, ◌≤◌, ◌<◌, ◌⊎◌, ◌^◌, [], Contains, IfErr, IfNone, IfOk, IfSome, List, None, OnOk, Some, false, length, map};
 ghost use Rattle.std.specs.Prelude.{slice_get, true};
-ghost use Rattle.resolver_clause_store.specs.TrailView.{slot_of};
+ghost use Rattle.resolver_clause_store.specs.TrailView.{length_of, slot_of};
 ghost use Rattle.resolver_clause_store.specs.Universe.{Demands};
 ghost use Rattle.resolver_clause_store.specs.declared.SoftRequirement.{SoftRequirement as SoftRequirementOf};
 ghost use Rattle.resolver_clause_store.specs.declared.SoftRequirement.TheVariants.{Solvable as SoftSolvable};
@@ -20,7 +20,7 @@ ghost use Rattle.resolver_encoding.specs.SoFar.{IsProgress, IsReadSoFar};
 ghost use Rattle.resolver_encoding.specs.Reach.{AreNear};
 ghost use Rattle.resolvo.specs.declared.rounds.Found.TheVariants.{Answer as FoundAnswer};
 ghost use Rattle.resolver_encoding.specs.declared.progress.Progress.TheVariants.{Read as ReadProgress};
-ghost use Rattle.resolvo.specs.ClauseSearches.{IsConsistent, IsRootTurn, KeepsTurn, OutcomeIs, base_of, clause_count_of, learnt_count_of, trail_of};
+ghost use Rattle.resolvo.specs.ClauseSearches.{HasDecided, IsConsistent, IsRootTurn, IsStalled, KeepsTurn, OutcomeIs, base_of, clause_count_of, learnt_count_of, trail_of};
 
 use crate::clause_search::{ClauseSearch, Outcome};
 use crate::owners::Owners;
@@ -255,6 +255,9 @@ impl<N: Copy + Eq + Hash + Drop, S: Copy + Eq + Hash + Drop> Rounds<N, S> {
         ensures loaded { OnOk result (IsUpToDate self.new) }
         ensures same { IsSearchOf self.old self.new }
         ensures turn { OnOk result (KeepsTurn (search_of self.old) (search_of self.new)) }
+        ensures made { IfOk result (λ is_made. is_made ≡ true → HasDecided (search_of self.new)) }
+        ensures none { IfOk result (λ is_made. is_made ≡ false →
+            (length_of (trail_of (search_of self.old)) ≤ length_of (trail_of (search_of self.new))) ⊎ IsStalled (search_of self.new)) }
         ensures limits { KeepsRoom self.old self.new }
         ensures refusal { IfErr result (IsStop (D.may_cancel provider.now) (IsStuck self.new)) }
     {

@@ -10,3 +10,12 @@ pub returns-in_ok-take-in-Decide-clause-queued : goal.returns-in_ok-take-in-Deci
 returns-in_ok-take-in-Decide-clause-queued g c =
     queued-longer c.next_step.new.queue c.next_step.new.trail c.take.new.trail c.args.table.now c.args.requirements.now
     c.in_ok-take-in-Decide.ensures.kept c.in_ok-choice.ensures.queued
+
+pub returns-in_ok-take-in-Decide-clause-taken : goal.returns-in_ok-take-in-Decide-clause-taken
+returns-in_ok-take-in-Decide-clause-taken g c = λ _.
+    record {
+      before = c.next_step.new.trail;
+      choice = c.in-Decide.choice;
+      next = rw c.in-Decide.is at c.in_ok-choice.ensures.step;
+      taken = c.in_ok-take-in-Decide.ensures.taken;
+    }

@@ -2,4 +2,4 @@ use Rattle.std.proofs.Common.{◌+◌, ◌-◌, length}
 use Rattle.resolver_clause_store.proofs.ranks.Ranks.touch_package.Given as goal
 
 abbrev pub decreases-packages : goal.decreases-packages
-decreases-packages l = l.number + 1 - length l.self.is_touched.items
+decreases-packages l = l.package + 1 - length l.self.noted.items

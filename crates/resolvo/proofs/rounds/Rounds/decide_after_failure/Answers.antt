@@ -1,4 +1,4 @@
-use Rattle.std.proofs.Common.{◌∙◌}
+use Rattle.std.proofs.Common.{◌∙◌, inr}
 use Rattle.resolvo.specs.RoundStates.{notes_of}
 use Rattle.resolvo.proofs.RoundLemmas.{searched}
 use Rattle.resolvo.proofs.TurnLemmas.{turn-trans}
@@ -19,6 +19,8 @@ returns g c =
       };
       same = record { encoding = c.load.ensures.same.encoding; chosen = c.load.ensures.same.chosen };
       turn = turn-trans c.args.self.now.search c.load.new.self.search c.decide.new.self c.in_ok-load.ensures.turn same.turn;
+      made = c.in_ok-is_made.ensures.made;
+      none = λ none. inr (c.in_ok-is_made.ensures.none none);
       limits = record { notes = loaded.notes; clauses = loaded.clauses; learnt = loaded.learnt };
       refusal = tt;
     }
