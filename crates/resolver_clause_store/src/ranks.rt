@@ -547,7 +547,12 @@ impl Ranks {
         }
         let counted = self.counted.get(&requirement)?;
         let literal = literals.get(counted.first as usize)?;
-        still_counted(trail, literals, counted, &self.changes_of(literal.variable)?)
+        still_counted(
+            trail,
+            literals,
+            counted,
+            &self.changes_of(literal.variable)?,
+        )
     }
 
     /// Remembers the open candidates of a requirement. `first` is the place of the first one in its clause.
