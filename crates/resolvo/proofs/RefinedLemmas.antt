@@ -1,6 +1,10 @@
 -- The rules that are left after new searches over them alone.
-use Rattle.std.proofs.Common.{◌≡◌, List, [], ◌∷◌, Bool, true, false, All, length, replicate, ap, sym, subst, ◌∙◌}
-use Rattle.std.specs.List.{AllZip}
+use Rattle.std.proofs.lemmas.List.{take-append-drop}
+use Rattle.std.proofs.Common.{◌≡◌, ◌<◌, ◌++◌, drop, take, ℕ, List, [], ◌∷◌, Bool, true, false, All, length, replicate, ap, sym, subst, ◌∙◌}
+use Rattle.std.specs.List.{AllZip, slice_index_or}
+use Rattle.std.specs.List.Sorted.{IsPermutation}
+use Rattle.std.proofs.lemmas.List.Sorted.{All-permutation, IsPermutation-append_comm, IsPermutation-sym}
+use Rattle.resolver_clause_store.specs.Formula.{IsBelow, clause_true}
 use Rattle.resolver_clause_store.specs.Lists.{IsCut, cut_none, cut_left, cut_right}
 use Rattle.resolver_clause_store.specs.Statements.{StatesTheSame}
 use Rattle.resolver_clause_store.specs.Rules.{IsRefuted}
@@ -13,6 +17,8 @@ use Rattle.resolvo.proofs.MinimalLemmas.{all_marked, cut_again, cut_zip}
 use Rattle.resolvo.proofs.SameLemmas.{AllTrue-same, IsRefuted-same}
 use Rattle.resolvo.specs.Explanations.{Explains}
 use Rattle.resolvo.specs.Minimal.{CopiesPart, marked}
+use Rattle.resolvo.specs.RuleClauses.{DecideRules, IsGuarded}
+use Rattle.resolvo.specs.declared.minimal.rule_clauses.RuleClause.{RuleClause}
 
 -- the marked elements are a part, in order
 marked_cut : {X : Type 0} (marks : List Bool) (xs : List X) → (dropped : List X) × IsCut xs (marked marks xs) dropped
@@ -48,3 +54,26 @@ module _ {N S : Type 0} (rules : List (Rule N S)) (marks : List Bool) (copies ke
     refuted = refined_refuted used stays explains.refuted;
     each_reached = again;
   }
+
+-- a list that is taken from another place on has the same elements
+pub turned-permutation : {X : Type 0} (xs ys : List X) (k : ℕ) → ys ≡ drop k xs ++ take k xs → IsPermutation xs ys
+turned-permutation {X} xs ys k is =
+    let From : List X → Type 0 = λ l. IsPermutation l ys in
+    let To : List X → Type 0 = λ l. IsPermutation (take k xs ++ drop k xs) l in
+    subst From (take-append-drop k xs) (subst To (sym is) (IsPermutation-append_comm (take k xs) (drop k xs)))
+
+-- the order of the clauses does not matter
+pub decide-permutation : {N S : Type 0} (rules : List (Rule N S)) (variables : ℕ) (clauses others : List RuleClause) → IsPermutation clauses others →
+    DecideRules rules variables clauses → DecideRules rules variables others
+decide-permutation rules variables clauses others moved it = record {
+  sound = λ marks set size obeys.
+      let found = it.sound marks set size obeys in
+      (found.0, All-permutation (λ (clause : RuleClause).
+      slice_index_or marks clause.rule false ≡ true → clause_true found.0 clause.literals.items ≡ true) clauses others moved found.1);
+  complete = λ marks values size holds. it.complete marks values size
+      (All-permutation (λ (clause : RuleClause). slice_index_or marks clause.rule false ≡ true → clause_true values clause.literals.items ≡ true)
+      others clauses (IsPermutation-sym clauses others moved) holds);
+  guarded = All-permutation (λ (clause : RuleClause). clause.is_requirement ≡ false → IsGuarded clause.literals.items) clauses others moved it.guarded;
+  places = All-permutation (λ (clause : RuleClause). clause.rule < length rules) clauses others moved it.places;
+  below = All-permutation (λ (clause : RuleClause). IsBelow variables clause.literals.items) clauses others moved it.below;
+}

@@ -111,8 +111,30 @@ impl<N: Copy + Eq + Ord + Hash + Drop, S: Copy + Eq + Ord + Hash + Drop> Conflic
             (u : Universe N S) (root : Demands) → Explains u root (rules_in self.now) → Explains u root (rules_in refined)) }
         ensures memory { IfErr result (λ e. e ≡ Exhausted.Memory) }
     {
+        let refined = self.refined_variation(0, learnt_limit)?;
+        Ok(refined)
+    }
+
+    /// Returns a conflict of the rules that another search over them uses: one of [`Conflict::refined_within`], which takes the rules in
+    /// another order.
+    ///
+    /// Variation 0 takes them in their order, and there are sixteen. Each may use other rules, so their messages can differ in length a
+    /// thousandfold. The error is always [`Exhausted::Memory`].
+    pub fn refined_variation(
+        &self,
+        variation: usize,
+        learnt_limit: usize,
+    ) -> Result<Conflict<N, S>, Exhausted>
+        requires names { IsIdentity N.eq }
+        requires solvables { IsIdentity S.eq }
+        ensures part { IfOk result (λ refined. CopiesPart (rules_in self.now) (rules_in refined)) }
+        ensures refuted { IfOk result (λ refined. IsRefuted (rules_in self.now) → IsRefuted (rules_in refined)) }
+        ensures explains { IfOk result (λ refined.
+            (u : Universe N S) (root : Demands) → Explains u root (rules_in self.now) → Explains u root (rules_in refined)) }
+        ensures memory { IfErr result (λ e. e ≡ Exhausted.Memory) }
+    {
         let alloc = *self.rules.allocator();
-        let marks = marks_used_again(alloc, self.rules(), learnt_limit)?;
+        let marks = marks_used_again(alloc, self.rules(), learnt_limit, variation)?;
         let copies = copies_of(alloc, self.rules(), &marks)?;
         let rules = keep_reached(alloc, copies)?;
         Ok(Conflict { rules })

@@ -1,5 +1,6 @@
 //! Refined conflicts: the rules of a list that new searches over them use.
 
+ghost use Rattle.std.specs.List.Sorted.{IsPermutation};
 ghost use Rattle.std.specs.Prelude.{◌≡◌, IfErr, IfOk, IfSome, OnOk, length};
 ghost use Rattle.resolver_clause_store.specs.Laws.{IsIdentity};
 ghost use Rattle.resolver_clause_store.specs.Rules.{IsRefuted};
@@ -16,6 +17,9 @@ use std::mem::drop;
 
 /// The greatest number of searches, each over the rules that the one before used.
 const SEARCHES: usize = 3;
+
+/// The number of places from which on the clauses may be taken.
+const TURNS: usize = 8;
 
 /// Returns the number of marked rules.
 fn marked_count(marks: &[bool]) -> usize {
@@ -77,13 +81,49 @@ fn refine<N, S>(
     Ok(marks)
 }
 
-/// Marks the rules that new searches over them use. Up to three searches run, as long as each drops at least a tenth of
+/// Puts the clauses of rules into another order, in which a search over them may use other rules. Variation 0 leaves them in
+/// their order, and each second one reverses it.
+fn rearranged(form: RuleClauses, variation: usize) -> RuleClauses
+    ensures variables { result.variables ≡ form.variables }
+    ensures clauses { IsPermutation form.clauses.items result.clauses.items }
+{
+    let RuleClauses {
+        variables,
+        mut clauses,
+    } = form;
+    if variation % 2 == 1 {
+        clauses.reverse();
+    }
+    let count = clauses.len();
+    clauses.rotate_left((count / TURNS).saturating_mul(variation / 2).min(count));
+    RuleClauses { variables, clauses }
+}
+
+/// Returns the clauses of the rules in another order, or `None` if there are more propositions than ids.
+fn clauses_varied<N: Copy + Eq + Hash + Drop, S: Copy + Eq + Hash + Drop>(
+    alloc: Global,
+    rules: &[Rule<N, S>],
+    variation: usize,
+) -> Result<Option<RuleClauses>, Exhausted>
+    requires names { IsIdentity N.eq }
+    requires solvables { IsIdentity S.eq }
+    ensures form { IfOk result (λ answer. IfSome answer (λ form. DecideRules rules.now form.variables form.clauses.items)) }
+    ensures memory { IfErr result (λ e. e ≡ Exhausted.Memory) }
+{
+    match clauses_within(alloc, rules)? {
+        Some(form) => Ok(Some(rearranged(form, variation))),
+        None => Ok(None),
+    }
+}
+
+/// Marks the rules that new searches over them use, which take the clauses in an order that `variation` decides. Up to three searches run, as long as each drops at least a tenth of
 /// the rules. A search that would learn more clauses than the limit allows is given up, and the marks are those of the
 /// searches before it.
 pub fn marks_used_again<N: Copy + Eq + Hash + Drop, S: Copy + Eq + Hash + Drop>(
     alloc: Global,
     rules: &[Rule<N, S>],
     learnt_limit: usize,
+    variation: usize,
 ) -> Result<Vec<bool>, Exhausted>
     requires names { IsIdentity N.eq }
     requires solvables { IsIdentity S.eq }
@@ -91,7 +131,7 @@ pub fn marks_used_again<N: Copy + Eq + Hash + Drop, S: Copy + Eq + Hash + Drop>(
     ensures refuted { IfOk result (λ marks. IsRefuted rules.now → IsRefuted (marked marks.items rules.now)) }
     ensures memory { IfErr result (λ e. e ≡ Exhausted.Memory) }
 {
-    let form = clauses_within(alloc, rules)?;
+    let form = clauses_varied(alloc, rules, variation)?;
     let marks = refine(alloc, rules, &form, learnt_limit);
     drop(form);
     Ok(marks?)

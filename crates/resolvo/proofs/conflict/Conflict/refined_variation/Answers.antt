@@ -3,7 +3,7 @@ use Rattle.resolvo.specs.Conflicts.{rules_in}
 use Rattle.std.proofs.Common.{ap, length, sym, ◌∙◌}
 use Rattle.std.proofs.lemmas.Result.{IfOk-from_err}
 use Rattle.resolver_encoding.proofs.RefusalLemmas.{IfErr-of}
-use Rattle.resolvo.proofs.conflict.Conflict.refined_within.Goals as goal
+use Rattle.resolvo.proofs.conflict.Conflict.refined_variation.Goals as goal
 
 pub returns : goal.returns
 returns g c =
