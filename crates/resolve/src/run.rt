@@ -1,27 +1,26 @@
 //! From an input to an answer, with the streams of a program.
 
-ghost use Rattle.std.specs.Prelude.{◌≡◌, ◌≢◌, ◌<◌, ◌≤◌, IfErr, IfOk, IfSome, OnOk, string_bytes};
+mod messages;
+
+ghost use Rattle.std.specs.Prelude.{◌≡◌, ◌≢◌, ◌<◌, ◌≤◌, IfErr, IfOk, OnOk};
 ghost use Rattle.std.specs.Io.KnownBytes.{Appends};
 ghost use Rattle.resolver_clause_store.specs.declared.data.Exhausted.TheVariants.{Memory};
 ghost use Rattle.resolve.specs.declared.run.Fault.TheVariants.{Exhausted as RanOut};
-ghost use Rattle.resolvo.specs.Conflicts.{rules_in};
 ghost use Rattle.resolvo.specs.Solvers.{provider_in};
 ghost use Rattle.resolve.specs.Faults.{exhausted_text, fault_of, status_of};
-ghost use Rattle.resolve.specs.Outcomes.{IsConflictWritten, IsExplained, IsOutcomeOf, IsSomeOutcome, IsMessageFrom, conflict_message};
+ghost use Rattle.resolve.specs.Outcomes.{IsConflictWritten, IsExplained, IsOutcomeOf, IsSomeOutcome};
 ghost use Rattle.resolve.specs.declared.request.Request.{Request};
 
+use self::messages::conflict_text;
 use crate::catalog::Catalog;
 use crate::ids::{NameId, SolvableId};
 use crate::request::{InputError, Request, read_request};
 use itertools::Itertools;
 use resolver_clause_store::Exhausted;
-use resolvo::{Conflict, Problem, Solver, UnsolvableOrCancelled};
+use resolvo::{Problem, Solver, UnsolvableOrCancelled};
 use std::alloc::{AllocError, AllocFailed, Global};
 use std::io::{Read, Write};
 use std::{io, mem};
-
-/// The number of clauses that a search for a conflict with a shorter message may learn.
-const LEARNT_LIMIT: usize = 100;
 
 /// A size of blocks, in bytes, that the C library's allocator always takes from its heap.
 const SMALL_BLOCK: usize = 4096;
@@ -277,67 +276,6 @@ fn refusal_of(
         UnsolvableOrCancelled::Exhausted(e) => Err(Fault::Exhausted(*e)),
         UnsolvableOrCancelled::Cancelled(value) => match *value {},
     }
-}
-
-/// Returns the message of a conflict, or of the refined conflict if that has fewer rules and a shorter message.
-fn conflict_text(
-    solver: &Solver<Catalog>,
-    conflict: &Conflict<NameId, SolvableId>,
-) -> Result<String, Fault>
-    ensures { IfOk result (λ text. IsMessageFrom (provider_in solver.now) (rules_in conflict.now) (string_bytes text)) }
-{
-    let text = whole_text(solver, conflict)?;
-    match refined_text(solver, conflict, text.len())? {
-        Some(shorter) => Ok(shorter),
-        None => Ok(text),
-    }
-}
-
-/// Returns the message of a conflict.
-fn whole_text(
-    solver: &Solver<Catalog>,
-    conflict: &Conflict<NameId, SolvableId>,
-) -> Result<String, Fault>
-    ensures { IfOk result (λ text. string_bytes text ≡ conflict_message (provider_in solver.now) (rules_in conflict.now)) }
-{
-    let message = conflict.display_user_friendly(solver)?;
-    let text = message.text();
-    drop(message);
-    Ok(text?)
-}
-
-/// Returns the message of the refined conflict, if that has fewer rules and its message has fewer bytes than `length`.
-fn refined_text(
-    solver: &Solver<Catalog>,
-    conflict: &Conflict<NameId, SolvableId>,
-    length: usize,
-) -> Result<Option<String>, Fault>
-    ensures { IfOk result (λ answer. IfSome answer (λ text. IsMessageFrom (provider_in solver.now) (rules_in conflict.now) (string_bytes text))) }
-{
-    let refined = conflict.refined_within(LEARNT_LIMIT)?;
-    let text = smaller_text(solver, conflict, &refined, length);
-    drop(refined);
-    Ok(text?)
-}
-
-/// Returns the message of a conflict, if it has fewer rules than another one and its message has fewer bytes than
-/// `length`.
-fn smaller_text(
-    solver: &Solver<Catalog>,
-    other: &Conflict<NameId, SolvableId>,
-    conflict: &Conflict<NameId, SolvableId>,
-    length: usize,
-) -> Result<Option<String>, Fault>
-    ensures { IfOk result (λ answer.
-        IfSome answer (λ text. string_bytes text ≡ conflict_message (provider_in solver.now) (rules_in conflict.now))) }
-{
-    if conflict.rules().len() >= other.rules().len() {
-        return Ok(None);
-    }
-    let message = conflict.display_user_friendly(solver)?;
-    let text = message.text_within(length.saturating_sub(1));
-    drop(message);
-    Ok(text?)
 }
 
 /// Returns the lines of the chosen solvables, ordered by the bytes of the names and then by version.

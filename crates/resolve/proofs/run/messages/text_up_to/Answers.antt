@@ -1,7 +1,7 @@
 use Rattle.std.proofs.Common.{◌≡◌, ℕ, List, IfSome, string_bytes, subst}
 use Rattle.resolver_report.specs.Messages.{message}
 use Rattle.resolve.specs.Catalogs.{catalog_universe}
-use Rattle.resolve.proofs.run.smaller_text.Goals as goal
+use Rattle.resolve.proofs.run.messages.text_up_to.Goals as goal
 
 pub returns : goal.returns
 returns c =

@@ -1,13 +1,13 @@
 use Rattle.std.proofs.lemmas.Option.{IfSome_then}
 use Rattle.resolvo.specs.Conflicts.{rules_in}
 use Rattle.resolve.specs.CatalogLaws.{same_names, same_solvables}
-use Rattle.resolve.proofs.run.refined_text.Goals as goal
+use Rattle.resolve.proofs.run.messages.refined_text.Goals as goal
 
-pub refined_within-requires-clause-names : goal.refined_within-requires-clause-names
-refined_within-requires-clause-names c = same_names
+pub refined_variation-requires-clause-names : goal.refined_variation-requires-clause-names
+refined_variation-requires-clause-names c = same_names
 
-pub refined_within-requires-clause-solvables : goal.refined_within-requires-clause-solvables
-refined_within-requires-clause-solvables c = same_solvables
+pub refined_variation-requires-clause-solvables : goal.refined_variation-requires-clause-solvables
+refined_variation-requires-clause-solvables c = same_solvables
 
 pub returns : goal.returns
 returns c = IfSome_then c.in_ok-text.field-0 c.in_ok-text.ensures (λ text is.

@@ -1,0 +1,12 @@
+use Rattle.std.proofs.Common.{◌∙◌}
+use Rattle.resolver_report.specs.Messages.{message}
+use Rattle.resolvo.specs.Conflicts.{rules_in}
+use Rattle.resolve.specs.Catalogs.{catalog_universe}
+use Rattle.resolve.proofs.run.messages.full_text.Goals as goal
+
+pub returns : goal.returns
+returns c = record {
+  rules = rules_in c.args.conflict.now;
+  explain = λ u root explains. explains;
+  is = c.in_ok-text.ensures.value ∙ (λ i. message (catalog_universe (c.in_ok-message.ensures.provider i)) (c.in_ok-message.ensures.graph i));
+}
