@@ -67,9 +67,11 @@ pub decide-permutation : {N S : Type 0} (rules : List (Rule N S)) (variables : �
     DecideRules rules variables clauses → DecideRules rules variables others
 decide-permutation rules variables clauses others moved it = record {
   sound = λ marks set size obeys.
-      let found = it.sound marks set size obeys in
-      (found.0, All-permutation (λ (clause : RuleClause).
-      slice_index_or marks clause.rule false ≡ true → clause_true found.0 clause.literals.items ≡ true) clauses others moved found.1);
+      let found = it.sound marks set size obeys in (
+        found.0,
+        All-permutation (λ (clause : RuleClause).
+            slice_index_or marks clause.rule false ≡ true → clause_true found.0 clause.literals.items ≡ true) clauses others moved found.1,
+      );
   complete = λ marks values size holds. it.complete marks values size
       (All-permutation (λ (clause : RuleClause). slice_index_or marks clause.rule false ≡ true → clause_true values clause.literals.items ≡ true)
       others clauses (IsPermutation-sym clauses others moved) holds);
