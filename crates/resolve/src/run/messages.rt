@@ -13,8 +13,8 @@ use resolvo::{Conflict, Solver};
 /// The number of clauses that the first search for a shorter message may learn.
 const LEARNT_LIMIT: usize = 100;
 
-/// The number of bytes up to which a message is told without further searches for a shorter one.
-const SHORT: usize = 10_000;
+/// The number of bytes up to which a message is told without further searches for a shorter one, which take time.
+const SHORT: usize = 1_000_000;
 
 /// The number of bytes up to which a message is counted before a shorter one is looked for.
 const LONG: usize = 1 << 26;
@@ -27,7 +27,7 @@ const VARIED_LIMIT: usize = 2000;
 
 /// Returns the message of a conflict, or of a refined conflict with fewer rules if that is shorter.
 ///
-/// If the message and that of the first refined conflict are long, those of others are looked at.
+/// If the message and that of the first refined conflict are long, those of others are looked at, too.
 pub(crate) fn conflict_text(
     solver: &Solver<Catalog>,
     conflict: &Conflict<NameId, SolvableId>,
