@@ -120,8 +120,8 @@ pub struct OpenCandidates {
     changes: u32,
 }
 
-/// Returns the open candidates of a requirement that is no union, if they are as they were counted before, or if the first of them has
-/// become false and nothing else has changed in their package.
+/// Returns the open candidates of a requirement that is no union, if they are as they were counted before, or if the
+/// first of them has become false and nothing else has changed in their package.
 fn still_counted(
     trail: &Trail,
     literals: &[Literal],
@@ -170,8 +170,8 @@ fn change_active(
 /// The ranks of active requirements.
 ///
 /// A requirement is ranked again when a variable of one of its packages gets or loses its value, and when the score of
-/// such a package grows. If its candidates became false one after another, they need not be counted again for that. Nothing is proved of the order, and nothing depends on it: the queue looks at each requirement
-/// before it is decided.
+/// such a package grows. If its candidates became false one after another, they need not be counted again for that.
+/// Nothing is proved of the order, and nothing depends on it: the queue looks at each requirement before it is decided.
 #[derive(Drop)]
 pub struct Ranks {
     /// The package of each variable.
@@ -578,8 +578,8 @@ impl Ranks {
         Ok(())
     }
 
-    /// Returns the place of the first open candidate of a requirement, and how many there are in its version set. Returns `None` if there is
-    /// nothing to decide for it.
+    /// Returns the place of the first open candidate of a requirement, and how many there are in its version set.
+    /// Returns `None` if there is nothing to decide for it.
     #[inline(always)]
     fn open_candidates(
         &mut self,

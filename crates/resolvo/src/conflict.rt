@@ -115,11 +115,10 @@ impl<N: Copy + Eq + Ord + Hash + Drop, S: Copy + Eq + Ord + Hash + Drop> Conflic
         Ok(refined)
     }
 
-    /// Returns a conflict of the rules that another search over them uses: one of [`Conflict::refined_within`], which takes the rules in
-    /// another order.
+    /// Returns a conflict of the rules that a new search over them uses, which takes their clauses in another order.
     ///
-    /// Variation 0 takes them in their order, and there are sixteen. Each may use other rules, so their messages can differ in length a
-    /// thousandfold. The error is always [`Exhausted::Memory`].
+    /// Variation 0 is [`Conflict::refined_within`], and there are sixteen. Each may use other rules, so their messages can
+    /// differ in length a thousandfold. The error is always [`Exhausted::Memory`].
     pub fn refined_variation(
         &self,
         variation: usize,

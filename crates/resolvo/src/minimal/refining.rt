@@ -116,9 +116,10 @@ fn clauses_varied<N: Copy + Eq + Hash + Drop, S: Copy + Eq + Hash + Drop>(
     }
 }
 
-/// Marks the rules that new searches over them use, which take the clauses in an order that `variation` decides. Up to three searches run, as long as each drops at least a tenth of
-/// the rules. A search that would learn more clauses than the limit allows is given up, and the marks are those of the
-/// searches before it.
+/// Marks the rules that new searches over them use, which take the clauses in an order that `variation` decides.
+///
+/// Up to three searches run, as long as each drops at least a tenth of the rules. A search that would learn more clauses
+/// than the limit allows is given up, and the marks are those of the searches before it.
 pub fn marks_used_again<N: Copy + Eq + Hash + Drop, S: Copy + Eq + Hash + Drop>(
     alloc: Global,
     rules: &[Rule<N, S>],

@@ -198,12 +198,13 @@ fn the_package_behind_a_condition_is_asked_for_where_that_holds(
     Ok(())
 }
 
-/// The newest three of four versions of one package each need a missing package, and three other packages of five versions are required
-/// as well.
+/// The newest three of four versions of one package each need a missing package, and three other packages of five
+/// versions are required as well.
 const FAILING: &str =
     "package a=1\npackage a=2\npackage a=3\npackage a=4\nrequires a=2 missing\nrequires a=3 missing\nrequires a=4 missing\npackage b=1\npackage b=2\npackage b=3\npackage b=4\npackage b=5\npackage c=1\npackage c=2\npackage c=3\npackage c=4\npackage c=5\npackage d=1\npackage d=2\npackage d=3\npackage d=4\npackage d=5\nrequire a\nrequire b\nrequire c\nrequire d\n";
 
-/// Three other packages are decided at first and at the end: 23 checks in all. If they were decided after each version that fails, it would be 32.
+/// The other packages are decided at first and at the end, which takes 23 checks. If they were decided after each version
+/// that fails, it would be 32.
 #[test]
 fn nothing_else_is_decided_while_versions_fail_one_after_another(
     rt: HostRuntime,
