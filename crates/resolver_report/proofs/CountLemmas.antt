@@ -1,7 +1,6 @@
 -- Bytes of a message that are counted and not written.
-use Rattle.std.proofs.Common.{◌≡◌, ℕ, ◌+◌, ◌-◌, ◌<◌, ◌≤◌, Bool, true, false, List, [], ◌∷◌, ◌++◌, length, length-append, append-nil, replicate, ap, arith, ◌∙◌}
+use Rattle.std.proofs.Common.{◌≡◌, ℕ, ◌+◌, ◌-◌, ◌≤◌, Bool, true, false, List, [], ◌∷◌, ◌++◌, length, length-append, append-nil, replicate, ap, arith, ◌∙◌}
 use Rattle.std.specs.Prelude.{codes, min}
-use Rattle.std.proofs.Math.Nat.{min-le_left}
 use Rattle.resolver_clause_store.specs.Universe.{Universe}
 use Rattle.resolver_report.specs.declared.graph.Edge.{Edge}
 use Rattle.resolver_report.specs.Forests.{text_of}
@@ -15,10 +14,6 @@ use Rattle.resolver_report.specs.Shapes.{ConflictShape}
 -- the bytes that one step writes are no longer to be told
 pub counted_step : (line rest all : List ℕ) (count : ℕ) → count ≡ length line → line ++ rest ≡ all → count + length rest ≡ length all
 counted_step line rest all count is same = omega (arith, is, length-append line rest, ap length same)
-
--- a sum that is cut at the largest number, and is above a limit
-sum_above : (a b most sum limit : ℕ) → sum ≡ min (a + b) most → limit < sum → limit < a + b
-sum_above a b most sum limit is above = omega (arith, is, min-le_left (a + b) most, above)
 
 -- the text still to be told of a whole tree is the text of the tree
 pub whole_told : {I N S : Type 0} (universe : I → Universe N S) (outline : Outline I N S) (top_indent : Bool) (limit : ℕ) (runs : List RunTold) →
@@ -49,8 +44,8 @@ module _ {N S : Type 0} (u : Universe N S) (g : ConflictShape S) (ks : List Key)
   conflict_has_tree out (e ∷ es) =
       in_between (codes "The following packages are incompatible") 10 (text_of true [] (tree u g ks marks (e ∷ es))) (conflict_text u out)
 
-  pub longer_trees : (lost left out : List (Edge S)) (a b most sum limit : ℕ) → a ≤ tree_length false lost → b ≤ tree_length true left →
-      sum ≡ min (a + b) most → limit < sum → limit < length (missing_part u g ks marks lost ++ conflict_part u g ks marks out left)
-  longer_trees lost left out a b most sum limit first second is above =
+  pub counted_trees : (lost left out : List (Edge S)) (a b most sum : ℕ) → a ≤ tree_length false lost → b ≤ tree_length true left →
+      sum ≡ min (a + b) most → sum ≤ length (missing_part u g ks marks lost ++ conflict_part u g ks marks out left)
+  counted_trees lost left out a b most sum first second is =
       let both = length-append (missing_part u g ks marks lost) (conflict_part u g ks marks out left) in
-      omega (arith, sum_above a b most sum limit is above, first, second, missing_has_tree lost, conflict_has_tree out left, both)
+      omega (arith, is, first, second, missing_has_tree lost, conflict_has_tree out left, both)

@@ -14,11 +14,14 @@ use crate::marks::{is_marked, missing};
 use crate::outline::node_stories;
 use crate::runs::outgoing;
 use crate::texts::write_conflicts;
-use crate::tree::{Outline, count_edges, tell_edges, write_end};
+use crate::tree::{Outline, count_edges, reserve_edges, tell_edges, write_end};
 use itertools::Itertools;
 use resolver_clause_store::{Exhausted, Interner};
 use std::alloc::Global;
 use std::fmt;
+
+/// The number of bytes of the line between the two trees of a message.
+const HEADING_LENGTH: usize = 40;
 
 /// Filters the edges by whether their target is marked.
 fn edges_by_mark<S: Copy + Drop>(
@@ -153,6 +156,34 @@ fn parts_of<'i, I: Interner>(
     })
 }
 
+/// Reserves room in an empty text for the two trees of a message and the line between them. A first pass counts the bytes.
+fn reserve_trees<I: Interner>(
+    parts: &MessageParts<'_, I>,
+    out: &mut String,
+) -> Result<(), Exhausted>
+    requires { IsOutline I.universe parts.now.outline I.SolvableId.eq }
+    ensures kept { OnOk result (string_bytes out.new ≡ string_bytes out.old) }
+    ensures memory { IfErr result (λ e. e ≡ Exhausted.Memory) }
+{
+    let room = reserve_edges(&parts.outline, &parts.lost, false, HEADING_LENGTH, out)?;
+    reserve_edges(&parts.outline, &parts.left, true, room, out)?;
+    Ok(())
+}
+
+/// Writes a message.
+fn write_message<I: Interner>(
+    parts: &MessageParts<'_, I>,
+    out: &mut String,
+) -> Result<(), Exhausted>
+    requires { IsOutline I.universe parts.now.outline I.SolvableId.eq }
+    ensures ok { OnOk result (string_bytes out.new ≡ string_bytes out.old ++ message_in I.universe parts.now) }
+    ensures memory { IfErr result (λ e. e ≡ Exhausted.Memory) }
+{
+    write_missing_part(&parts.outline, &parts.lost, out)?;
+    write_conflict_part(&parts.outline, &parts.root_edges, &parts.left, out)?;
+    Ok(())
+}
+
 /// Writes a message into a text of its own.
 fn message_text<I: Interner>(
     alloc: Global,
@@ -163,25 +194,24 @@ fn message_text<I: Interner>(
     ensures memory { IfErr result (λ e. e ≡ Exhausted.Memory) }
 {
     let mut text = String::new(alloc);
-    write_missing_part(&parts.outline, &parts.lost, &mut text)?;
-    write_conflict_part(&parts.outline, &parts.root_edges, &parts.left, &mut text)?;
+    reserve_trees(parts, &mut text)?;
+    write_message(parts, &mut text)?;
     Ok(text)
 }
 
-/// Whether the two trees of a message have more than `limit` bytes. Counting stops just above the limit.
-fn has_longer_trees<I: Interner>(
+/// Counts the bytes of the two trees of a message. Counting stops just above the limit.
+fn count_trees<I: Interner>(
     alloc: Global,
     parts: &MessageParts<'_, I>,
     limit: usize,
-) -> Result<bool, Exhausted>
+) -> Result<usize, Exhausted>
     requires { IsOutline I.universe parts.now.outline I.SolvableId.eq }
-    ensures longer { IfOk result (λ longer. IsTrue longer → limit < length (message_in I.universe parts.now)) }
+    ensures counted { IfOk result (λ count. count ≤ length (message_in I.universe parts.now)) }
     ensures memory { IfErr result (λ e. e ≡ Exhausted.Memory) }
 {
     let lost = count_edges(alloc, &parts.outline, &parts.lost, false, limit)?;
     let left = count_edges(alloc, &parts.outline, &parts.left, true, limit)?;
-    let both = lost.saturating_add(left);
-    Ok(both > limit)
+    Ok(lost.saturating_add(left))
 }
 
 /// The text of a message, or `None` if it has more than `limit` bytes.
@@ -196,10 +226,13 @@ fn message_text_within<I: Interner>(
     ensures longer { IfOk result (λ answer. IfNone answer (limit < length (message_in I.universe parts.now))) }
     ensures memory { IfErr result (λ e. e ≡ Exhausted.Memory) }
 {
-    if has_longer_trees(alloc, parts, limit)? {
+    let count = count_trees(alloc, parts, limit)?;
+    if count > limit {
         return Ok(None);
     }
-    let text = message_text(alloc, parts)?;
+    let mut text = String::new(alloc);
+    text.reserve(count.saturating_add(HEADING_LENGTH))?;
+    write_message(parts, &mut text)?;
     if text.len() > limit {
         return Ok(None);
     }

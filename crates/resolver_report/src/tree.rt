@@ -451,36 +451,38 @@ fn tell_pending<'s, I: Interner>(
     Ok(())
 }
 
-/// Reserves room in a text for all that is still to be told. A first pass counts it, with each line written to a buffer
-/// and discarded. So a text that does not fit into memory is refused before it is written, and one that fits is not
-/// copied as it grows.
+/// Reserves room in a text for `room` bytes and all that is still to be told, and returns how many bytes that is. Each line is
+/// written to a buffer and discarded. So a text that does not fit into memory is refused before it is written, and one that
+/// fits is not copied as it grows.
 fn reserve_pending<'s, I: Interner>(
     outline: &'s Outline<'_, I>,
     pending: &mut Pending<'s>,
     line: &mut String,
+    room: usize,
     out: &mut String,
-) -> Result<(), Exhausted>
+) -> Result<usize, Exhausted>
     requires outline { IsOutline I.universe outline.now I.SolvableId.eq }
     requires levels { HasLevels pending.old }
     ensures kept { OnOk result (string_bytes out.new ≡ string_bytes out.old) }
     ensures memory { IfErr result (λ e. e ≡ Exhausted.Memory) }
 {
-    let mut length: usize = 0;
+    let mut length = room;
     while tell_next(outline, pending, line)? {
         length = length.saturating_add(line.len());
         line.clear();
         out.reserve(length)?;
     }
-    Ok(())
+    Ok(length)
 }
 
-/// Reserves room in a text for the tree of these outlines.
+/// Reserves room in a text for `room` bytes and the tree of these outlines, and returns how many bytes that is.
 fn reserve_tree<'s, I: Interner>(
     outline: &'s Outline<'_, I>,
     runs: &'s [RunOutline],
     top_level_indent: bool,
+    room: usize,
     out: &mut String,
-) -> Result<(), Exhausted>
+) -> Result<usize, Exhausted>
     requires { IsOutline I.universe outline.now I.SolvableId.eq }
     ensures kept { OnOk result (string_bytes out.new ≡ string_bytes out.old) }
     ensures memory { IfErr result (λ e. e ≡ Exhausted.Memory) }
@@ -488,9 +490,27 @@ fn reserve_tree<'s, I: Interner>(
     let count = outline.findings.graph.graph.nodes().len();
     let mut pending = Pending::whole(*out.allocator(), runs, top_level_indent, count)?;
     let mut line = String::new(*out.allocator());
-    reserve_pending(outline, &mut pending, &mut line, out)?;
+    let length = reserve_pending(outline, &mut pending, &mut line, room, out)?;
     drop(pending);
-    Ok(())
+    Ok(length)
+}
+
+/// Reserves room in a text for `room` bytes and the tree of some of the root's edges, and returns how many bytes that is.
+pub fn reserve_edges<I: Interner>(
+    outline: &Outline<'_, I>,
+    edges: &[Edge<I::SolvableId>],
+    top_level_indent: bool,
+    room: usize,
+    out: &mut String,
+) -> Result<usize, Exhausted>
+    requires { IsOutline I.universe outline.now I.SolvableId.eq }
+    ensures kept { OnOk result (string_bytes out.new ≡ string_bytes out.old) }
+    ensures memory { IfErr result (λ e. e ≡ Exhausted.Memory) }
+{
+    let alloc = *out.allocator();
+    let runs = outlines_of(alloc, &outline.findings, edges)?;
+    let length = reserve_tree(outline, &runs, top_level_indent, room, out)?;
+    Ok(length)
 }
 
 /// Writes the tree of these outlines.
@@ -506,7 +526,6 @@ fn tell_tree<'s, I: Interner>(
         (unmarked outline.now.findings.graph.now.graph) true (map run_told_view runs.now) (unmarked outline.now.findings.graph.now.graph)).value) }
     ensures memory { IfErr result (λ e. e ≡ Exhausted.Memory) }
 {
-    reserve_tree(outline, runs, top_level_indent, out)?;
     let count = outline.findings.graph.graph.nodes().len();
     let mut pending = Pending::whole(*out.allocator(), runs, top_level_indent, count)?;
     tell_pending(outline, &mut pending, out)?;
