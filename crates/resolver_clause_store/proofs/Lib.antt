@@ -20,6 +20,7 @@ pub mod AvailabilityLemmas
 pub mod SlotLemmas
 pub mod StoredSlotLemmas
 pub mod StoredPairLemmas
+pub mod StoredSignLemmas
 pub mod MemberLemmas
 pub mod TrailLemmas
 pub mod ClauseLists

@@ -32,6 +32,29 @@ impl<T: Copy> Model for LongLists<T> {
     ghost invariant = { λ l. IsAmong l.number (length l.others.items) };
 }
 
+/// Appends an item to a list that may have to grow.
+#[inline(never)]
+fn push_last<T: Copy>(list: &mut Vec<T>, item: T) -> Result<(), AllocError>
+    ensures pushed { OnOk result (list.new.items ≡ list.old.items ++ item ∷ []) }
+    ensures unchanged { OnErr result (list.new.items ≡ list.old.items) }
+{
+    list.push(item)?;
+    Ok(())
+}
+
+/// Appends an item to a list.
+fn push_to<T: Copy>(list: &mut Vec<T>, item: T) -> Result<(), AllocError>
+    ensures pushed { OnOk result (list.new.items ≡ list.old.items ++ item ∷ []) }
+    ensures unchanged { OnErr result (list.new.items ≡ list.old.items) }
+{
+    if list.len() < list.capacity() {
+        list.push(item)?;
+        return Ok(());
+    }
+    push_last(list, item)?;
+    Ok(())
+}
+
 /// Appends an item to a list.
 fn push_at<T: Copy>(lists: &mut Vec<Vec<T>>, number: usize, item: T) -> Result<(), AllocError>
     requires { number < length lists.old.items }
@@ -39,7 +62,7 @@ fn push_at<T: Copy>(lists: &mut Vec<Vec<T>>, number: usize, item: T) -> Result<(
         (list_of (items_of lists.old.items) number ++ item ∷ [])) }
     ensures unchanged { OnErr result (items_of lists.new.items ≡ items_of lists.old.items) }
 {
-    lists[number].push(item)?;
+    push_to(&mut lists[number], item)?;
     Ok(())
 }
 
@@ -127,7 +150,7 @@ impl<T: Copy> LongLists<T> {
         ensures unchanged { OnErr result (self.new ≡ self.old) }
     {
         if number == self.number {
-            self.at_hand.push(item)?;
+            push_last(&mut self.at_hand, item)?;
             return Ok(());
         }
         push_at(&mut self.others, number, item)?;

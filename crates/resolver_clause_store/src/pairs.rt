@@ -1,6 +1,6 @@
 //! The two literals that each clause watches.
 
-ghost use Rattle.std.specs.Prelude.{◌<◌, ◌≡◌, ◌≢◌, ◌++◌, ◌∷◌, [], ℕ, OnErr, OnOk, Some, length, slice_set};
+ghost use Rattle.std.specs.Prelude.{◌<◌, ◌≡◌, ◌≢◌, ◌++◌, ◌∷◌, [], ℕ, MatchBool, OnErr, OnOk, Some, if◌then◌else◌, length, slice_set};
 ghost use Rattle.resolver_clause_store.specs.Watches.{IsPair, is_watched, pair_at, replaced};
 ghost use Rattle.resolver_clause_store.specs.declared.literals.Literal.{Literal};
 ghost use Rattle.resolver_clause_store.specs.WatchedPairs.{literal_from, pair_with};
@@ -97,17 +97,19 @@ fn pair_with(variables: &PairVariables, signs: &PairSigns) -> WatchedPair
     }
 }
 
+/// Returns whether a literal with this sign is watched.
+fn is_signed(sign: WatchedSign, positive: bool) -> bool
+    ensures { (variable : ℕ) → MatchBool result (literal_from variable sign ≡ Some (record { variable = variable; positive = positive }))
+        (literal_from variable sign ≢ Some (record { variable = variable; positive = positive })) }
+{
+    sign == stored_sign(positive)
+}
+
 /// Returns whether this literal is watched, by what is stored of it.
 fn is_stored(variable: Variable, sign: WatchedSign, literal: Literal) -> bool
     ensures { result ≡ is_watched (literal_from variable sign) literal }
 {
-    if variable != literal.variable {
-        return false;
-    }
-    if literal.positive {
-        return sign == WatchedSign::Positive;
-    }
-    sign == WatchedSign::Negative
+    (variable == literal.variable) & is_signed(sign, literal.positive)
 }
 
 /// Returns the literal with a variable and a sign. If none is watched, it means nothing.
@@ -120,14 +122,24 @@ fn literal_with(variable: Variable, sign: WatchedSign) -> Literal
     }
 }
 
-/// Returns the literal of a pair beside this one.
-fn other_of(variables: &PairVariables, signs: &PairSigns, literal: &Literal) -> Literal
-    ensures { (other : Literal) → literal.now ≢ other → IsPair (pair_with variables.now signs.now) literal.now other → result ≡ other }
+/// Returns one of two values.
+///
+/// Either literal of a pair may be the one that is asked for, so a processor cannot foresee a branch. One value at a time, it needs none.
+fn one_of<T: Copy>(is_first: bool, first: T, second: T) -> T
+    ensures { result ≡ (if is_first then first else second) }
 {
-    if is_stored(variables.first, signs.first, *literal) {
-        return literal_with(variables.second, signs.second);
-    }
-    literal_with(variables.first, signs.first)
+    if is_first { first } else { second }
+}
+
+/// Returns the literal of a pair beside this one.
+fn other_of(variables: PairVariables, signs: PairSigns, literal: Literal) -> Literal
+    ensures { (other : Literal) → literal ≢ other → IsPair (pair_with variables signs) literal other → result ≡ other }
+{
+    let is_first = is_stored(variables.first, signs.first, literal);
+    literal_with(
+        one_of(is_first, variables.second, variables.first),
+        one_of(is_first, signs.second, signs.first),
+    )
 }
 
 /// Returns the parts of a pair with one literal replaced by another.
@@ -140,29 +152,17 @@ fn replaced(
     ensures { pair_with result.0 result.1 ≡ replaced (pair_with variables signs) from to }
 {
     let (variable, sign) = (to.variable, stored_sign(to.positive));
-    if is_stored(variables.first, signs.first, from) {
-        (
-            PairVariables {
-                first: variable,
-                second: variables.second,
-            },
-            PairSigns {
-                first: sign,
-                second: signs.second,
-            },
-        )
-    } else {
-        (
-            PairVariables {
-                first: variables.first,
-                second: variable,
-            },
-            PairSigns {
-                first: signs.first,
-                second: sign,
-            },
-        )
-    }
+    let is_first = is_stored(variables.first, signs.first, from);
+    (
+        PairVariables {
+            first: one_of(is_first, variable, variables.first),
+            second: one_of(is_first, variables.second, variable),
+        },
+        PairSigns {
+            first: one_of(is_first, sign, signs.first),
+            second: one_of(is_first, signs.second, sign),
+        },
+    )
 }
 
 /// The literals that each clause watches. In contracts, they are the list of the pairs.
@@ -217,7 +217,7 @@ impl WatchedPairs {
         requires { number < length self.now }
         ensures { (other : Literal) → literal.now ≢ other → IsPair (pair_at self.now number) literal.now other → result ≡ other }
     {
-        other_of(&self.variables[number], &self.signs[number], literal)
+        other_of(self.variables[number], self.signs[number], *literal)
     }
 
     /// Appends the pair of a new clause. An error changes nothing.

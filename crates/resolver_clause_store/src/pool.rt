@@ -327,6 +327,7 @@ impl<T: Copy> ListPool<T> {
     }
 
     /// Appends an item to a list. An error changes no list.
+    #[inline(always)]
     pub fn push(&mut self, list: usize, item: T) -> Result<(), AllocError>
         requires { list < length (lists_in self.old) }
         ensures pushed { OnOk result (PutsList (lists_in self.old) (lists_in self.new) list (list_of (lists_in self.old) list ++ item ∷ [])) }

@@ -212,6 +212,7 @@ impl Watches {
     }
 
     /// Makes a clause watch one more literal, with `pair` as its new pair.
+    #[inline(always)]
     fn attach(
         &mut self,
         watch: Watch,

@@ -3,11 +3,13 @@ use Rattle.std.proofs.Common.{◌≡◌, ◌≢◌, ℕ, ◌+◌, ◌<◌, List,
 use Rattle.std.proofs.Common.{◌∙◌, subst, ⊎_elim, length-set, get_or-set_other}
 use Rattle.std.specs.List.{All, Contains}
 use Rattle.std.proofs.lemmas.Bool.{both_ways, cases_eq}
+use Rattle.std.specs.List.Sorted.{IsPermutation}
 use Rattle.std.proofs.lemmas.List.Elements.{All-contains, All-more, All-weaker}
+use Rattle.std.proofs.lemmas.List.Sorted.{All-permutation, Contains-permutation}
 use Rattle.resolver_clause_store.specs.declared.Literal.{Literal}
 use Rattle.resolver_clause_store.specs.declared.Slot.{Slot}
 use Rattle.resolver_clause_store.specs.declared.Trail.{Trail}
-use Rattle.resolver_clause_store.specs.TrailView.{slot_of}
+use Rattle.resolver_clause_store.specs.TrailView.{literal_value, slot_of}
 use Rattle.resolver_clause_store.specs.Outcomes.{IsFalsified}
 use Rattle.resolvo.specs.Resolvents.{AddsNegation, ListsMarks, Negates, is_marked}
 use Rattle.resolvo.proofs.NegationLemmas.{negation}
@@ -56,3 +58,11 @@ listed-all trail marks literals marked listed lists is so =
       only = so.only;
       each = λ v s m at. All-contains Held listed v so.each (subst (λ xs. Contains xs v) (sym is) (lists.all v m)) s m at;
     }
+
+-- literals in another order
+pub negates-permuted : (trail : Trail) (marks : List Bool) (old new : List Literal) → IsPermutation old new → Negates trail marks old → Negates trail marks new
+negates-permuted trail marks old new same negates = record {
+  falsified = All-permutation (λ literal. literal_value trail literal ≡ Some false) old new same negates.falsified;
+  only = All-permutation (λ (literal : Literal). is_marked marks literal.variable ≡ true) old new same negates.only;
+  each = λ v s m at. Contains-permutation old new _ same (negates.each v s m at);
+}

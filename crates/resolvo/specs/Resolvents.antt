@@ -1,5 +1,5 @@
 -- Marked variables whose values contradict clauses.
-use Rattle.std.specs.Prelude.{◌≡◌, ◌≢◌, ℕ, ◌<◌, ◌≤◌, ◌⊎◌, Bool, true, false, not, Contains, Some, List, [], length, All, Any, slice_index_or}
+use Rattle.std.specs.Prelude.{◌≡◌, ◌≢◌, ℕ, ◌-◌, ◌<◌, ◌≤◌, ◌⊎◌, Bool, true, false, not, Contains, Some, List, [], length, All, Any, slice_index_or}
 use Rattle.std.specs.Bool.{beq}
 use Rattle.std.specs.Option.{option_map_or}
 use Rattle.resolver_clause_store.specs.declared.Literal.{Literal}
@@ -8,7 +8,7 @@ use Rattle.resolver_clause_store.specs.declared.Reason.TheVariants.{Forced}
 use Rattle.resolver_clause_store.specs.declared.Trail.{Trail}
 use Rattle.resolver_clause_store.specs.Formula.{MakesTrue, FollowsFrom, clause_at}
 use Rattle.resolver_clause_store.specs.Outcomes.{IsFalsified}
-use Rattle.resolver_clause_store.specs.TrailView.{slot_of, variable_count}
+use Rattle.resolver_clause_store.specs.TrailView.{length_of, place_of, slot_of, variable_count}
 use Rattle.resolvo.specs.declared.analyze.Resolvent.{Resolvent}
 use Rattle.resolvo.specs.declared.analyze.Learnt.{Learnt}
 use Rattle.resolvo.specs.declared.analyze.Analysis.{Analysis}
@@ -122,6 +122,10 @@ pub record AddsNegation (trail : Trail) (marks : List Bool) (variable : ℕ) (ol
   pub only : All (λ (literal : Literal). is_marked marks literal.variable ≡ true) old → All (λ (literal : Literal). is_marked marks literal.variable ≡ true) new
   pub added : (slot : Slot) → is_marked marks variable ≡ true → slot_of trail variable ≡ Some slot →
       Contains new (record { variable = variable; positive = not slot.value })
+
+-- the number of places on the trail from that of the literal's variable on
+abbrev pub age_in : Trail → Literal → ℕ
+age_in trail literal = length_of trail - place_of trail literal.variable
 
 -- the literal is false, and is so at this level or a lower one
 pub record IsFalseAt (trail : Trail) (level : ℕ) (literal : Literal) : Type 0 where

@@ -1,12 +1,13 @@
 //! Conflict analysis: learns a clause from a conflict.
 
+ghost use Rattle.std.specs.List.Sorted.{IsNonDecreasingBy, IsPermutation};
 ghost use Rattle.std.specs.Prelude.{◌≡◌, ◌≢◌, ◌⊎◌, ◌+◌, ◌<◌, ◌≤◌, length, All, Any, IfOk, IfSome, MatchBool, OnOk, Some, ℕ, false, not, slice_set, true};
 ghost use Rattle.resolver_clause_store.specs.Formula.{AreBelow, IsBelow, clause_at};
 ghost use Rattle.resolver_clause_store.specs.TrailView.{length_of, place_of, slot_of, variable_at, variable_count};
 ghost use Rattle.resolvo.specs.Propagation.{IsConflict, IsJustified};
 ghost use Rattle.resolver_clause_store.specs.declared.Slot.{Slot};
 ghost use Rattle.resolver_clause_store.specs.declared.Literal.{Literal};
-ghost use Rattle.resolvo.specs.Resolvents.{AddsNegation, AllBefore, IsLevelled, IsReason, IsResolvent, IsSingle, IsUnmarked, AnalysisIs, ListsMarks, MarksAlso};
+ghost use Rattle.resolvo.specs.Resolvents.{AddsNegation, AllBefore, IsLevelled, IsReason, IsResolvent, IsSingle, IsUnmarked, AnalysisIs, ListsMarks, MarksAlso, age_in};
 ghost use Rattle.resolvo.specs.Resolvents.{Negates, StandsAt, level_in, is_marked};
 
 use resolver_clause_store::{Clauses, Literal, Reason, Trail, Variable, clause};
@@ -490,6 +491,27 @@ pub fn asserted_level(trail: &Trail, learnt: &Learnt) -> usize
     level_at(trail, learnt.literal.variable)
 }
 
+/// Returns the number of places on the trail from that of the literal's variable on. Without a value, it counts as at the first place.
+fn age_of(trail: &Trail, literal: Literal) -> usize
+    ensures { result ≡ age_in trail.now literal }
+{
+    if literal.variable.index() >= trail.variable_count() {
+        return trail.len();
+    }
+    match trail.slot(literal.variable) {
+        Some(slot) => trail.len().saturating_sub(slot.place as usize),
+        None => trail.len(),
+    }
+}
+
+/// Sorts literals by age, the youngest first. The next time, too, that is likely to become false last, so it is worth watching.
+fn sort_by_age(trail: &Trail, literals: &mut Vec<Literal>)
+    ensures same { IsPermutation literals.old.items literals.new.items }
+    ensures sorted { IsNonDecreasingBy (age_in trail.now) literals.new.items }
+{
+    literals.sort_unstable_by_key(|literal| age_of(trail, *literal));
+}
+
 /// Analyzes a false clause: learns a clause from it that follows from others, is false, and has only one literal of its
 /// highest level; or, if it is false at level 0, finds an unsatisfiable core.
 pub fn analyze(
@@ -508,12 +530,13 @@ pub fn analyze(
     let mut resolvent = begin(alloc, blank, table, trail, number)?;
     resolve_level(table, trail, &mut resolvent)?;
     minimize(table, trail, &mut resolvent)?;
-    let literals = literals_of(
+    let mut literals = literals_of(
         alloc,
         trail,
         resolvent.marks.as_slice(),
         resolvent.marked.as_slice(),
     )?;
+    sort_by_age(trail, &mut literals);
     unmark_all(&mut resolvent.marks, resolvent.marked.as_slice());
     marks.put(resolvent.marks);
     if resolvent.level == 0 {
