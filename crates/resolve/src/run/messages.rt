@@ -1,9 +1,9 @@
 //! The message of a conflict, or a shorter one of fewer of its rules.
 
-ghost use Rattle.std.specs.Prelude.{◌≡◌, IfOk, IfSome, OnOk, string_bytes};
+ghost use Rattle.std.specs.Prelude.{◌≡◌, ◌<◌, ◌≤◌, IfNone, IfOk, IfSome, OnOk, Some, length, string_bytes};
 ghost use Rattle.resolvo.specs.Conflicts.{rules_in};
 ghost use Rattle.resolvo.specs.Solvers.{provider_in};
-ghost use Rattle.resolve.specs.Outcomes.{IsMessageFrom, conflict_message};
+ghost use Rattle.resolve.specs.Outcomes.{IsMessageFrom, IsShortest, conflict_message};
 
 use super::Fault;
 use crate::catalog::Catalog;
@@ -25,6 +25,15 @@ const VARIATIONS: usize = 16;
 /// The number of clauses that each of these may learn.
 const VARIED_LIMIT: usize = 2000;
 
+/// The shortest message so far.
+#[derive(Drop)]
+pub(crate) struct Shortest {
+    /// Its text, unless that is very long.
+    text: Option<String>,
+    /// The number of its bytes. If there is no text, the message of the conflict has at least so many.
+    length: usize,
+}
+
 /// Returns the message of a conflict, or of a refined conflict with fewer rules if that is shorter.
 ///
 /// If the message and that of the first refined conflict are long, those of others are looked at, too.
@@ -37,7 +46,7 @@ pub(crate) fn conflict_text(
     let mut shortest = whole_text(solver, conflict)?;
     retell(solver, conflict, &mut shortest, 0, LEARNT_LIMIT)?;
     vary(solver, conflict, &mut shortest)?;
-    match shortest {
+    match shortest.text {
         Some(text) => Ok(text),
         None => {
             let text = full_text(solver, conflict)?;
@@ -46,15 +55,20 @@ pub(crate) fn conflict_text(
     }
 }
 
-/// Returns the message of a conflict, unless it is very long.
+/// Returns the message of a conflict, without its text if that is very long.
 fn whole_text(
     solver: &Solver<Catalog>,
     conflict: &Conflict<NameId, SolvableId>,
-) -> Result<Option<String>, Fault>
-    ensures { IfOk result (λ answer. IfSome answer (λ text. IsMessageFrom (provider_in solver.now) (rules_in conflict.now) (string_bytes text))) }
+) -> Result<Shortest, Fault>
+    ensures { IfOk result (IsShortest (provider_in solver.now) (rules_in conflict.now)) }
 {
-    let text = text_up_to(solver, conflict, LONG)?;
-    Ok(text)
+    match text_up_to(solver, conflict, LONG)? {
+        Some(text) => Ok(shortest_of(text)),
+        None => Ok(Shortest {
+            text: None,
+            length: LONG + 1,
+        }),
+    }
 }
 
 /// Returns the message of a conflict, however long it is.
@@ -74,22 +88,28 @@ fn full_text(
 fn text_up_to(
     solver: &Solver<Catalog>,
     conflict: &Conflict<NameId, SolvableId>,
-    length: usize,
+    limit: usize,
 ) -> Result<Option<String>, Fault>
-    ensures { IfOk result (λ answer.
+    ensures value { IfOk result (λ answer.
         IfSome answer (λ text. string_bytes text ≡ conflict_message (provider_in solver.now) (rules_in conflict.now))) }
+    ensures within { IfOk result (λ answer. IfSome answer (λ text. length (string_bytes text) ≤ limit)) }
+    ensures longer { IfOk result (λ answer. IfNone answer (limit < length (conflict_message (provider_in solver.now) (rules_in conflict.now)))) }
 {
     let message = conflict.display_user_friendly(solver)?;
-    let text = message.text_within(length);
+    let text = message.text_within(limit);
     drop(message);
     Ok(text?)
 }
 
-/// Returns the number of bytes of a message, or more than [`LONG`] if there is none.
-fn length_of(text: &Option<String>) -> usize {
-    match text {
-        Some(text) => text.len(),
-        None => LONG + 1,
+/// Returns a message with its length.
+fn shortest_of(text: String) -> Shortest
+    ensures text { result.text ≡ Some text }
+    ensures length { result.length ≡ length (string_bytes text) }
+{
+    let length = text.len();
+    Shortest {
+        text: Some(text),
+        length,
     }
 }
 
@@ -97,17 +117,17 @@ fn length_of(text: &Option<String>) -> usize {
 fn retell(
     solver: &Solver<Catalog>,
     conflict: &Conflict<NameId, SolvableId>,
-    shortest: &mut Option<String>,
+    shortest: &mut Shortest,
     variation: usize,
     learnt_limit: usize,
 ) -> Result<(), Fault>
-    requires { IfSome shortest.old (λ text. IsMessageFrom (provider_in solver.now) (rules_in conflict.now) (string_bytes text)) }
-    ensures { OnOk result (IfSome shortest.new (λ text. IsMessageFrom (provider_in solver.now) (rules_in conflict.now) (string_bytes text))) }
+    requires { IsShortest (provider_in solver.now) (rules_in conflict.now) shortest.old }
+    ensures { OnOk result (IsShortest (provider_in solver.now) (rules_in conflict.now) shortest.new) }
 {
-    let length = length_of(shortest).saturating_sub(1);
-    match refined_text(solver, conflict, variation, learnt_limit, length)? {
+    let limit = shortest.length.saturating_sub(1);
+    match refined_text(solver, conflict, variation, learnt_limit, limit)? {
         Some(shorter) => {
-            *shortest = Some(shorter);
+            *shortest = shortest_of(shorter);
             Ok(())
         }
         None => Ok(()),
@@ -120,16 +140,16 @@ fn retell(
 fn vary(
     solver: &Solver<Catalog>,
     conflict: &Conflict<NameId, SolvableId>,
-    shortest: &mut Option<String>,
+    shortest: &mut Shortest,
 ) -> Result<(), Fault>
-    requires { IfSome shortest.old (λ text. IsMessageFrom (provider_in solver.now) (rules_in conflict.now) (string_bytes text)) }
-    ensures { OnOk result (IfSome shortest.new (λ text. IsMessageFrom (provider_in solver.now) (rules_in conflict.now) (string_bytes text))) }
+    requires { IsShortest (provider_in solver.now) (rules_in conflict.now) shortest.old }
+    ensures { OnOk result (IsShortest (provider_in solver.now) (rules_in conflict.now) shortest.new) }
 {
-    if length_of(shortest) <= SHORT || !may_vary(conflict)? {
+    if shortest.length <= SHORT || !may_vary(conflict)? {
         return Ok(());
     }
     'variations: for variation in 0..VARIATIONS {
-        if length_of(shortest) <= SHORT {
+        if shortest.length <= SHORT {
             return Ok(());
         }
         retell(solver, conflict, shortest, variation, VARIED_LIMIT)?;
@@ -145,35 +165,37 @@ fn may_vary(conflict: &Conflict<NameId, SolvableId>) -> Result<bool, Fault> {
     Ok(is_smaller)
 }
 
-/// Returns the message of a refined conflict, if that has fewer rules and its message at most `length` bytes.
+/// Returns the message of a refined conflict, if that has fewer rules and its message at most `limit` bytes.
 fn refined_text(
     solver: &Solver<Catalog>,
     conflict: &Conflict<NameId, SolvableId>,
     variation: usize,
     learnt_limit: usize,
-    length: usize,
+    limit: usize,
 ) -> Result<Option<String>, Fault>
+    requires { limit ≤ length (conflict_message (provider_in solver.now) (rules_in conflict.now)) }
     ensures { IfOk result (λ answer. IfSome answer (λ text. IsMessageFrom (provider_in solver.now) (rules_in conflict.now) (string_bytes text))) }
 {
     let refined = conflict.refined_variation(variation, learnt_limit)?;
-    let text = smaller_text(solver, conflict, &refined, length);
+    let text = smaller_text(solver, conflict, &refined, limit);
     drop(refined);
     Ok(text?)
 }
 
-/// Returns the message of a conflict, if it has fewer rules than another one and its message has at most `length` bytes.
+/// Returns the message of a conflict, if it has fewer rules than another one and its message has at most `limit` bytes.
 fn smaller_text(
     solver: &Solver<Catalog>,
     other: &Conflict<NameId, SolvableId>,
     conflict: &Conflict<NameId, SolvableId>,
-    length: usize,
+    limit: usize,
 ) -> Result<Option<String>, Fault>
-    ensures { IfOk result (λ answer.
+    ensures value { IfOk result (λ answer.
         IfSome answer (λ text. string_bytes text ≡ conflict_message (provider_in solver.now) (rules_in conflict.now))) }
+    ensures within { IfOk result (λ answer. IfSome answer (λ text. length (string_bytes text) ≤ limit)) }
 {
     if conflict.rules().len() >= other.rules().len() {
         return Ok(None);
     }
-    let text = text_up_to(solver, conflict, length)?;
+    let text = text_up_to(solver, conflict, limit)?;
     Ok(text)
 }

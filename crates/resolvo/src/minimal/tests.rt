@@ -365,6 +365,36 @@ fn what_a_new_search_does_not_use_is_left_out(rt: HostRuntime) -> Result<(), Fai
     Ok(())
 }
 
+/// Eight requirements of the root without candidates, each of which is a conflict by itself.
+const MISSING: [Stated<'static>; 8] = [Stated::Requires(By::Root, &[], &[]); 8];
+
+/// Returns whether this variation of the refined conflict has only the rule at this place.
+fn keeps_only(
+    alloc: Global,
+    stated: &[Stated<'_>],
+    variation: usize,
+    place: usize,
+) -> Result<bool, Fail> {
+    let conflict = Conflict {
+        rules: rules_of(alloc, stated)?,
+    };
+    match conflict.refined_variation(variation, 100) {
+        Ok(refined) => Ok(are_copies(refined.rules(), stated, &[place])),
+        Err(_) => Err(Fail::from("refused")),
+    }
+}
+
+#[test]
+fn variations_use_other_rules(rt: HostRuntime) -> Result<(), Fail> {
+    assert!(rt; keeps_only(rt.alloc(), &MISSING, 0, 7)?);
+    assert!(rt; keeps_only(rt.alloc(), &MISSING, 1, 0)?);
+    assert!(rt; keeps_only(rt.alloc(), &MISSING, 2, 0)?);
+    assert!(rt; keeps_only(rt.alloc(), &MISSING, 3, 7)?);
+    assert!(rt; keeps_only(rt.alloc(), &MISSING, 14, 6)?);
+    assert!(rt; keeps_only(rt.alloc(), &MISSING, 15, 1)?);
+    Ok(())
+}
+
 /// The result of refining random rules.
 #[derive(Clone, Copy, PartialEq)]
 enum Refined {

@@ -1,5 +1,4 @@
-use Rattle.std.proofs.lemmas.Option.{IfSome_then}
-use Rattle.resolvo.specs.Conflicts.{rules_in}
+use Rattle.resolve.proofs.OutcomeLemmas.{message_from}
 use Rattle.resolve.specs.CatalogLaws.{same_names, same_solvables}
 use Rattle.resolve.proofs.run.messages.refined_text.Goals as goal
 
@@ -10,5 +9,4 @@ pub refined_variation-requires-clause-solvables : goal.refined_variation-require
 refined_variation-requires-clause-solvables c = same_solvables
 
 pub returns : goal.returns
-returns c = IfSome_then c.in_ok-text.field-0 c.in_ok-text.ensures (λ text is.
-    record { rules = rules_in c.in_ok-refined.refined; explain = c.in_ok-refined.ensures.explains; is = is })
+returns c = message_from _ _ _ c.in_ok-text.field-0 _ c.in_ok-refined.ensures.explains c.in_ok-text.ensures.value c.in_ok-text.ensures.within c.requires
