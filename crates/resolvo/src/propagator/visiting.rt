@@ -281,7 +281,7 @@ impl Propagator {
                     &watcher.placed,
                     literals[place],
                     watcher.other,
-                    stored_start(place),
+                    stored_start(place + 1),
                 )?;
                 Ok(WatchOutcome::Next(watcher.placed.place))
             }
