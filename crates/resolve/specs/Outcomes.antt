@@ -25,12 +25,11 @@ same_name_ids a b = a.0 == b.0
 abbrev pub conflict_message : Catalog → List (Rule NameId SolvableId) → List ℕ
 conflict_message it rules = message (catalog_universe it) (graph_of same_name_ids same_solvable_ids rules)
 
--- the text is the message of some rules, which explain whatever the given rules explain, and has no more bytes than the message of those
+-- the text is the message of some rules, and these explain whatever the given rules explain
 pub record IsMessageFrom (it : Catalog) (given : List (Rule NameId SolvableId)) (text : List ℕ) : Type 0 where
   pub rules : List (Rule NameId SolvableId)
   pub explain : (u : Universe NameId SolvableId) (root : Demands) → Explains u root given → Explains u root rules
   pub is : text ≡ conflict_message it rules
-  pub within : length text ≤ length (conflict_message it given)
 
 -- the text, if there is one, is such a message and has so many bytes; the message of the given rules has at least as many
 abbrev pub IsShortest : Catalog → List (Rule NameId SolvableId) → Shortest → Type 0

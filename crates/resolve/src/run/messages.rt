@@ -41,7 +41,8 @@ pub(crate) fn conflict_text(
     solver: &Solver<Catalog>,
     conflict: &Conflict<NameId, SolvableId>,
 ) -> Result<String, Fault>
-    ensures { IfOk result (λ text. IsMessageFrom (provider_in solver.now) (rules_in conflict.now) (string_bytes text)) }
+    ensures message { IfOk result (λ text. IsMessageFrom (provider_in solver.now) (rules_in conflict.now) (string_bytes text)) }
+    ensures within { IfOk result (λ text. length (string_bytes text) ≤ length (conflict_message (provider_in solver.now) (rules_in conflict.now))) }
 {
     let mut shortest = whole_text(solver, conflict)?;
     retell(solver, conflict, &mut shortest, 0, LEARNT_LIMIT)?;
@@ -76,7 +77,7 @@ fn full_text(
     solver: &Solver<Catalog>,
     conflict: &Conflict<NameId, SolvableId>,
 ) -> Result<String, Fault>
-    ensures { IfOk result (λ text. IsMessageFrom (provider_in solver.now) (rules_in conflict.now) (string_bytes text)) }
+    ensures { IfOk result (λ text. string_bytes text ≡ conflict_message (provider_in solver.now) (rules_in conflict.now)) }
 {
     let message = conflict.display_user_friendly(solver)?;
     let text = message.text();
@@ -173,8 +174,8 @@ fn refined_text(
     learnt_limit: usize,
     limit: usize,
 ) -> Result<Option<String>, Fault>
-    requires { limit ≤ length (conflict_message (provider_in solver.now) (rules_in conflict.now)) }
-    ensures { IfOk result (λ answer. IfSome answer (λ text. IsMessageFrom (provider_in solver.now) (rules_in conflict.now) (string_bytes text))) }
+    ensures message { IfOk result (λ answer. IfSome answer (λ text. IsMessageFrom (provider_in solver.now) (rules_in conflict.now) (string_bytes text))) }
+    ensures within { IfOk result (λ answer. IfSome answer (λ text. length (string_bytes text) ≤ limit)) }
 {
     let refined = conflict.refined_variation(variation, learnt_limit)?;
     let text = smaller_text(solver, conflict, &refined, limit);

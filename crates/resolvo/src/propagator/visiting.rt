@@ -245,6 +245,8 @@ impl Propagator {
 
     /// Moves the watch of a false literal to another literal of the clause; the other watched one is not true. If there
     /// is none, the clause is unit, and forces the other.
+    ///
+    /// The next search by this watch begins behind the literal that is found, which is false by then.
     fn find_replacement(
         &mut self,
         trail: &mut Trail,

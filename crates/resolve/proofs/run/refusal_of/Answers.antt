@@ -5,7 +5,7 @@ use Rattle.resolve.proofs.run.refusal_of.Goals as goal
 
 pub returns-in_ok-conflict_text-in-Unsolvable : goal.returns-in_ok-conflict_text-in-Unsolvable
 returns-in_ok-conflict_text-in-Unsolvable c = λ request same explained.
-    let told = c.in_ok-conflict_text-in-Unsolvable.ensures in
+    let told = c.in_ok-conflict_text-in-Unsolvable.ensures.message in
     record {
       rules = told.rules;
       explain = told.explain (catalog_universe request.catalog) (demands_of request) (subst (IsExplained request) c.in-Unsolvable.is explained);
