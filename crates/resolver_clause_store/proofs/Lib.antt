@@ -19,7 +19,6 @@ pub mod UnionLemmas
 pub mod AvailabilityLemmas
 pub mod SlotLemmas
 pub mod StoredSlotLemmas
-pub mod StoredPairLemmas
 pub mod StoredSignLemmas
 pub mod MemberLemmas
 pub mod TrailLemmas

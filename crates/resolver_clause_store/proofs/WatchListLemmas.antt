@@ -1,10 +1,10 @@
 -- The lists of watches: the number of times that a clause is in a list, and the effect of writing a list.
 use Rattle.std.proofs.Common.{◌≡◌, ◌≢◌, ℕ, ◌+◌, ◌-◌, ◌*◌, ◌<◌, ◌≤◌, ◌⊎◌, List, [], ◌∷◌, ◌++◌, length, get_or, set, Option, Some, None, Bool, true, false, cond}
-use Rattle.std.proofs.Common.{Result, Ok, Err, OnErr, eqb, arith, rules, inl, inr, refl, zero, suc, sym, ap, true≢false, ◌∙◌, subst, ⊎_elim, length-set, get_or-set_same, get_or-set_other}
+use Rattle.std.proofs.Common.{eqb, arith, rules, inl, inr, refl, zero, suc, sym, ap, true≢false, ◌∙◌, subst, ⊎_elim, length-set, get_or-set_same, get_or-set_other}
 use Rattle.std.proofs.Common.{length-append}
 use Rattle.std.proofs.Math.ListN.{get_or-append}
 use Rattle.std.proofs.Math.Seq.{get_or-append_seam, set-append_seam}
-use Rattle.std.specs.Prelude.{All, Contains, IfSome, MatchOption, OnOk}
+use Rattle.std.specs.Prelude.{All, Contains, IfSome, MatchOption}
 use Rattle.std.specs.Bool.{beq}
 use Rattle.std.specs.List.{slice_get, count_by, swap_remove}
 use Rattle.std.proofs.lemmas.Option.{get_or_from_slice_get, same_Some, slice_get-get_or, slice_get_within}
@@ -318,11 +318,11 @@ unwatched-more [] (suc number) = refl
 unwatched-more (pair ∷ pairs) zero = refl
 unwatched-more (pair ∷ pairs) (suc number) = unwatched-more pairs number
 
-pub watched-more : {E : Type 0} (result : Result (Unit {0}) E) (lists : List (List Watch)) (pairs more : List WatchedPair) →
-    OnOk result (more ≡ pairs ++ unwatched ∷ []) → OnErr result (more ≡ pairs) → IsWatched lists pairs → IsWatched lists more
-watched-more (Ok done) lists pairs more added same' watched = λ l n. watched l n ∙
-    ap (λ (p : WatchedPair). pair_count p l) (sym (ap (λ (ps : List WatchedPair). pair_at ps n) added ∙ unwatched-more pairs n))
-watched-more (Err e) lists pairs more added same' watched = λ l n. watched l n ∙ ap (λ (ps : List WatchedPair). pair_count (pair_at ps n) l) (sym same')
+pub watched-more : (added : Bool) (lists : List (List Watch)) (pairs more : List WatchedPair) →
+    more ≡ cond added (pairs ++ unwatched ∷ []) pairs → IsWatched lists pairs → IsWatched lists more
+watched-more true lists pairs more is watched = λ l n. watched l n ∙
+    ap (λ (p : WatchedPair). pair_count p l) (sym (ap (λ (ps : List WatchedPair). pair_at ps n) is ∙ unwatched-more pairs n))
+watched-more false lists pairs more is watched = λ l n. watched l n ∙ ap (λ (ps : List WatchedPair). pair_count (pair_at ps n) l) (sym is)
 
 -- a clause in the list of a literal watches the literal
 pub listed-watching : (lists : List (List Watch)) (pairs : List WatchedPair) (literal : Literal) (place : ℕ) (watch : Watch) → IsWatched lists pairs →
@@ -589,14 +589,7 @@ added-inside pairs new pair number added last = omega (arith, last, ap (λ (ps :
 
 -- the watch with another start
 abbrev pub with_start : Watch → ℕ → Watch
-with_start watch start =
-    record {
-      number = watch.number;
-      blocker_variable = watch.blocker_variable;
-      is_blocker_positive = watch.is_blocker_positive;
-      is_binary = watch.is_binary;
-      start = start;
-    }
+with_start watch start = record { number = watch.number; blocker = watch.blocker; is_binary = watch.is_binary; start = start }
 
 -- a move, step by step: the watch that was read, pushed, removed and written
 pub record IsMove (old mid new : List (List Watch)) (before : List WatchedPair) (from to : Literal) (place : ℕ) (blocker : Literal) (start : ℕ) (read : Watch)

@@ -18,26 +18,16 @@ list_at lists list = slice_index_or lists list []
 
 -- stands for the watch behind the end of a list
 abbrev pub no_watch : Watch
-no_watch = record { number = 0; blocker_variable = 0; is_blocker_positive = false; is_binary = false; start = 0 }
+no_watch = record { number = 0; blocker = record { variable = 0; positive = false }; is_binary = false; start = 0 }
 
 -- the watch at a place of a list
 abbrev pub watch_at : List Watch → ℕ → Watch
 watch_at list place = slice_index_or list place no_watch
 
--- a literal of the watched clause: while it is true, the clause need not be visited
-abbrev pub blocker_of : Watch → Literal
-blocker_of watch = record { variable = watch.blocker_variable; positive = watch.is_blocker_positive }
-
 -- the watch with another blocker
 abbrev pub with_blocker : Watch → Literal → Watch
 with_blocker watch blocker =
-    record {
-      number = watch.number;
-      blocker_variable = blocker.variable;
-      is_blocker_positive = blocker.positive;
-      is_binary = watch.is_binary;
-      start = watch.start;
-    }
+    record { number = watch.number; blocker = blocker; is_binary = watch.is_binary; start = watch.start }
 
 -- a clause that watches nothing
 abbrev pub unwatched : WatchedPair
@@ -89,7 +79,7 @@ IsWatching pairs number literal = ((pair_at pairs number).first ≡ Some literal
 
 -- the blocker is a literal of the clause, and a clause that is called binary has two literals
 pub record FitsClause (table : List (List Literal)) (watch : Watch) : Type 0 where
-  pub own : Contains (clause_at table watch.number) (blocker_of watch)
+  pub own : Contains (clause_at table watch.number) watch.blocker
   pub two : watch.is_binary ≡ true → length (clause_at table watch.number) ≡ 2
 
 -- each watch fits its clause

@@ -12,7 +12,7 @@ abbrev pub lists_of : Watches → List (List Watch)
 lists_of watches = lists_in watches.lists
 
 abbrev pub pairs_of : Watches → List WatchedPair
-pairs_of watches = watches.pairs
+pairs_of watches = watches.pairs.items
 
 -- there is a list for the literal
 abbrev pub HasList : Watches → Literal → Type 0

@@ -1,21 +1,45 @@
 //! Variables and literals.
 
-ghost use Rattle.std.specs.Prelude.{◌≡◌, ℕ};
+ghost use Rattle.std.specs.Prelude.{◌≡◌, ◌<◌, ℕ, ◌==◌, length, get_or};
+ghost use Rattle.std.specs.Int.{w32, from_le_bytes, to_le_bytes};
+ghost use Rattle.std.proofs.Common.{rules};
+ghost use Rattle.std.proofs.lemmas.Nat.{le_bytes_4};
+ghost use Rattle.std.specs.Cmp.Rules.{comparing};
 
 use std::marker::Model;
 
 /// The number of a variable.
-#[derive(Clone, Copy, PartialEq, Eq, Hash)]
+///
+/// Its four bytes need no alignment, so a literal takes five.
+#[derive(Clone, Copy)]
 pub struct Variable {
-    index: u32,
+    bytes: [u8; 4],
 }
 
 impl Model for Variable {
     ghost Value = { ℕ };
 
-    ghost view = { λ v. v.index };
+    ghost view = { λ v. from_le_bytes w32 v.bytes };
 
-    ghost inverse = { λ n. record { index = n } };
+    ghost invariant = { λ v. (length v.bytes ≡ 4) × ((i : ℕ) → get_or v.bytes i 0 < 256) };
+
+    ghost inverse = { λ n. record { bytes = to_le_bytes w32 n } };
+
+    ghost inverse_ok = { λ v h i. record { bytes = le_bytes_4 v.bytes (from_le_bytes w32 v.bytes) h.0 h.1 (λ _. from_le_bytes w32 v.bytes) i } };
+}
+
+impl PartialEq for Variable {
+    ghost eq = { ◌==◌ };
+
+    ghost laws = { Prim.search (comparing, rules) };
+
+    fn eq(&self, other: &Variable) -> bool {
+        self.number() == other.number()
+    }
+}
+
+impl Eq for Variable {
+    ghost laws = { Prim.search (comparing, rules) };
 }
 
 impl Variable {
@@ -23,14 +47,23 @@ impl Variable {
     pub fn new(index: u32) -> Self
         ensures { result ≡ index }
     {
-        Variable { index }
+        Variable {
+            bytes: index.to_le_bytes(),
+        }
+    }
+
+    /// Returns the variable's number.
+    fn number(self) -> u32
+        ensures { result ≡ self }
+    {
+        u32::from_le_bytes(self.bytes)
     }
 
     /// Returns the variable's number, as an index into a table of the variables.
     pub fn index(self) -> usize
         ensures { result ≡ self }
     {
-        self.index as usize
+        self.number() as usize
     }
 }
 

@@ -6,11 +6,11 @@ ghost use Rattle.resolver_clause_store.specs.ListPoolsView.{lists_in};
 ghost use Rattle.resolver_clause_store.specs.declared.literals.Literal.{Literal};
 ghost use Rattle.resolver_clause_store.specs.TrailView.{variable_count};
 ghost use Rattle.resolver_clause_store.specs.Unsatisfied.{IsFirstUnsatisfied, IsNextUnsatisfied};
-ghost use Rattle.resolver_clause_store.specs.Watches.{IsWatched, blocker_of, list_at, list_number, watch_at, with_blocker};
+ghost use Rattle.resolver_clause_store.specs.Watches.{IsWatched, list_at, list_number, watch_at, with_blocker};
 
-use crate::literals::{Literal, Variable};
+use crate::literals::Literal;
 use crate::numbers::narrow;
-use crate::pairs::{WatchedPair, WatchedPairs};
+use crate::pairs::{StoredPair, WatchedPair};
 use crate::placed_watch::PlacedWatch;
 use crate::pool::ListPool;
 use crate::trail::Trail;
@@ -18,50 +18,17 @@ use std::alloc::{AllocError, Global};
 
 /// A clause in the list of a literal that it watches.
 ///
-/// The parts of the blocker stand side by side, and `start` takes two bytes, so a watch takes twelve.
+/// The blocker takes five bytes and `start` two, so a watch takes twelve.
 #[derive(Clone, Copy, PartialEq, Eq)]
 pub struct Watch {
     /// The clause's number.
     pub number: u32,
-    /// The variable of a literal of the clause. While that literal is true, the clause need not be visited.
-    pub blocker_variable: Variable,
-    /// Whether that literal is positive.
-    pub is_blocker_positive: bool,
+    /// A literal of the clause. While it is true, the clause need not be visited.
+    pub blocker: Literal,
     /// Whether the clause is known to have two literals.
     pub is_binary: bool,
     /// The place in the clause from which on another literal to watch is looked for first. Any place is right.
     pub start: u16,
-}
-
-impl Watch {
-    /// Returns a literal of the clause. While it is true, the clause need not be visited.
-    pub fn blocker(&self) -> Literal
-        ensures { result ≡ blocker_of self.now }
-    {
-        Literal {
-            variable: self.blocker_variable,
-            positive: self.is_blocker_positive,
-        }
-    }
-}
-
-/// Returns the watch of a clause with this number.
-fn watch_of(number: u32, blocker: Literal, is_binary: bool, start: u16) -> Watch
-    ensures { result ≡ record {
-      number = number;
-      blocker_variable = blocker.variable;
-      is_blocker_positive = blocker.positive;
-      is_binary = is_binary;
-      start = start;
-    } }
-{
-    Watch {
-        number,
-        blocker_variable: blocker.variable,
-        is_blocker_positive: blocker.positive,
-        is_binary,
-        start,
-    }
 }
 
 /// Returns the number of a literal's list.
@@ -83,11 +50,11 @@ pub fn copied(literal: &Literal) -> Literal
 /// Returns the first place from this one on whose blocker is not true, or the number of watches.
 fn first_unsatisfied(watches: &[Watch], trail: &Trail, from: usize) -> usize
     requires from { from ≤ length watches.now }
-    requires below { All (λ (watch : Watch). watch.blocker_variable < variable_count trail.now) watches.now }
+    requires below { All (λ (watch : Watch). watch.blocker.variable < variable_count trail.now) watches.now }
     ensures { IsFirstUnsatisfied trail.now watches.now from result }
 {
     'watches: for place in from..watches.len() {
-        if !trail.is_true(watches[place].blocker()) {
+        if !trail.is_true(watches[place].blocker) {
             return place;
         }
     }
@@ -114,8 +81,8 @@ fn watch_in(watches: &[Watch], place: usize) -> Option<PlacedWatch>
 #[derive(Drop)]
 pub struct Watches {
     lists: ListPool<Watch>,
-    pairs: WatchedPairs,
-    ghost watched: { IsWatched (lists_in lists) pairs },
+    pairs: Vec<StoredPair>,
+    ghost watched: { IsWatched (lists_in lists) pairs.items },
 }
 
 impl Watches {
@@ -132,7 +99,7 @@ impl Watches {
     {
         Watches {
             lists: ListPool::new(alloc),
-            pairs: WatchedPairs::new(alloc),
+            pairs: Vec::new(alloc),
         }
     }
 
@@ -162,7 +129,7 @@ impl Watches {
         requires { number < length (pairs_of self.now) }
         ensures { result ≡ pair_at (pairs_of self.now) number }
     {
-        self.pairs.at(number)
+        self.pairs[number].pair()
     }
 
     /// Returns the literal that a clause watches beside this one.
@@ -170,7 +137,7 @@ impl Watches {
         requires { number < length (pairs_of self.now) }
         ensures { (other : Literal) → literal.now ≢ other → IsPair (pair_at (pairs_of self.now) number) literal.now other → result ≡ other }
     {
-        self.pairs.other(number, literal)
+        self.pairs[number].other(literal)
     }
 
     /// Brings the list of a literal to hand, which changes no list. A long list is found sooner then.
@@ -201,7 +168,7 @@ impl Watches {
     ) -> Option<PlacedWatch>
         requires list { HasList self.now literal }
         requires from { from ≤ length (list_at (lists_of self.now) (list_number literal)) }
-        requires below { All (λ (watch : Watch). watch.blocker_variable < variable_count trail.now) (list_at (lists_of self.now) (list_number literal)) }
+        requires below { All (λ (watch : Watch). watch.blocker.variable < variable_count trail.now) (list_at (lists_of self.now) (list_number literal)) }
         ensures value { MatchOption result
             (IsFirstUnsatisfied trail.now (list_at (lists_of self.now) (list_number literal)) from (length (list_at (lists_of self.now) (list_number literal))))
             (IsNextUnsatisfied trail.now (list_at (lists_of self.now) (list_number literal)) from) }
@@ -230,7 +197,7 @@ impl Watches {
     {
         let number = watch.number as usize;
         self.lists.push(list_number(literal), watch)?;
-        self.pairs.set(number, pair);
+        self.pairs[number] = StoredPair::new(pair);
         Ok(())
     }
 
@@ -258,13 +225,24 @@ impl Watches {
             first: Some(copied(&first)),
             second: None,
         };
-        let watch = watch_of(number, copied(&second), is_binary, 0);
+        let watch = Watch {
+            number,
+            blocker: copied(&second),
+            is_binary,
+            start: 0,
+        };
         self.attach(watch, one, copied(&first))?;
         let two = WatchedPair {
             first: Some(copied(&first)),
             second: Some(copied(&second)),
         };
-        self.attach(watch_of(number, first, is_binary, 0), two, second)?;
+        let watch = Watch {
+            number,
+            blocker: first,
+            is_binary,
+            start: 0,
+        };
+        self.attach(watch, two, second)?;
         Ok(())
     }
 
@@ -274,10 +252,10 @@ impl Watches {
         ensures kept { (number : ℕ) → number < length (pairs_of self.old) → pair_at (pairs_of self.new) number ≡ pair_at (pairs_of self.old) number }
         ensures lists { lists_of self.new ≡ lists_of self.old }
     {
-        self.pairs.push(WatchedPair {
+        self.pairs.push(StoredPair::new(WatchedPair {
             first: None,
             second: None,
-        })?;
+        }))?;
         Ok(())
     }
 
@@ -325,7 +303,12 @@ impl Watches {
             FitClauses table (lists_of self.old) → FitClauses table (lists_of self.new) }
     {
         let watch = placed.watch;
-        let watch = watch_of(watch.number, blocker, watch.is_binary, watch.start);
+        let watch = Watch {
+            number: watch.number,
+            blocker,
+            is_binary: watch.is_binary,
+            start: watch.start,
+        };
         self.lists.set(list_number(literal), placed.place, watch);
     }
 
@@ -352,10 +335,15 @@ impl Watches {
             FitClauses table (lists_of self.old) → FitClauses table (lists_of self.new)) }
     {
         let watch = placed.watch;
-        let moved = watch_of(watch.number, blocker, watch.is_binary, start);
+        let moved = Watch {
+            number: watch.number,
+            blocker,
+            is_binary: watch.is_binary,
+            start,
+        };
         self.lists.push(list_number(copied(&to)), moved)?;
         self.lists.take(list_number(copied(&from)), placed.place);
-        self.pairs.replace(watch.number as usize, from, to);
+        self.pairs[watch.number as usize].replace(from, to);
         Ok(())
     }
 }

@@ -32,7 +32,7 @@ use Rattle.resolvo.specs.Propagation.{IsJustified, IsUnit}
 use Rattle.resolver_clause_store.specs.Settled.{IsOpen}
 use Rattle.resolvo.specs.Propagators.{AreLate, AreWatched, Covers, IsConstant, IsExcused, IsNoted, IsPropagator, IsTrueAt, IsTrueBefore, WatchesTwo}
 use Rattle.resolvo.specs.Propagators.{attached_of, head_of, late_of, pending_of}
-use Rattle.resolver_clause_store.specs.Watches.{FitClauses, FitsClause, IsWatching, blocker_of, list_at, pair_at, pair_from, unwatched, watched_pair}
+use Rattle.resolver_clause_store.specs.Watches.{FitClauses, FitsClause, IsWatching, list_at, pair_at, pair_from, unwatched, watched_pair}
 use Rattle.resolver_clause_store.specs.WatchesView.{lists_of, pairs_of}
 use Rattle.resolvo.proofs.PropagatorLemmas.{any-map, covers-kept, late-kept}
 use Rattle.resolver_clause_store.proofs.BoolLemmas.{beq-itself as beq-same}
@@ -91,7 +91,7 @@ module _ (old new : List (List Literal)) (longer : length old ≤ length new)
       let here = fit list k d below in
       let as_before = same _ (within-contains old _ _ here.own) in
       record {
-        own = subst (λ (c : List Literal). Contains c (blocker_of (get_or (list_at lists list) k d))) (sym as_before) here.own;
+        own = subst (λ (c : List Literal). Contains c (get_or (list_at lists list) k d).blocker) (sym as_before) here.own;
         two = λ e. ap (λ (c : List Literal). length c) as_before ∙ here.two e;
       }
 

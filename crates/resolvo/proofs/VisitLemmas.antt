@@ -25,7 +25,7 @@ use Rattle.resolvo.specs.Propagators.{late_of, pending_of}
 use Rattle.resolvo.specs.Visits.{GoesOn, IsPaired, IsPlaced, IsVisiting, Replaces, StandsAt, watchers_of}
 use Rattle.resolver_clause_store.specs.Unsatisfied.{IsFirstUnsatisfied, IsNextUnsatisfied}
 use Rattle.resolver_clause_store.specs.Watches.{FitClauses, IsPair, IsWatching, MovesWatch, SameClauses, list_at, list_number, pair_at, unwatched}
-use Rattle.resolver_clause_store.specs.Watches.{blocker_of, watched_pair}
+use Rattle.resolver_clause_store.specs.Watches.{watched_pair}
 use Rattle.resolver_clause_store.specs.WatchesView.{lists_of, pairs_of}
 use Rattle.resolvo.specs.declared.propagator.Late.{Late}
 use Rattle.resolvo.specs.declared.propagator.Propagator.{Propagator}
@@ -48,10 +48,10 @@ below-contains table variables number literal below c = subst (λ (l : Literal).
 
 -- the blockers have a slot
 pub blockers-below : (table : List (List Literal)) (trail : Trail) (it : Propagator) (literal : Literal) → AreBelow (variable_count trail) table →
-    IsPropagator table trail it → All (λ (watch : Watch). watch.blocker_variable < variable_count trail) (watchers_of it literal)
+    IsPropagator table trail it → All (λ (watch : Watch). watch.blocker.variable < variable_count trail) (watchers_of it literal)
 blockers-below table trail it literal below propagator k d inside =
     let watch = get_or (watchers_of it literal) k d in
-    below-contains table (variable_count trail) watch.number (blocker_of watch) below (propagator.watched.fit (list_number literal) k d inside).own
+    below-contains table (variable_count trail) watch.number watch.blocker below (propagator.watched.fit (list_number literal) k d inside).own
 
 -- a clause that is true
 
@@ -201,7 +201,7 @@ passes-satisfied table trail it falsified from place top first v = record {
     each = λ k watch less at. ⊎_elim
         (λ (before : k < from). v.excused.each k watch before at)
         (λ (behind : from ≤ k). inl (satisfied-low trail (clause_at table watch.number) falsified.level (v.fails.top top)
-        (any-contains (λ (l : Literal). literal_value trail l ≡ Some true) (clause_at table watch.number) (blocker_of watch)
+        (any-contains (λ (l : Literal). literal_value trail l ≡ Some true) (clause_at table watch.number) watch.blocker
         (fit-at table (lists_of it.watches) (list_number falsified.literal) k watch v.propagator.watched.fit at).own
         (first.passed k watch behind less at))))
         (cases_lt k from);

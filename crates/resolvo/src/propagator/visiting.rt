@@ -370,7 +370,7 @@ impl Propagator {
     ) -> Option<PlacedWatch>
         requires list { HasList self.now.watches falsified.now.literal }
         requires from { from ≤ length (watchers_of self.now falsified.now.literal) }
-        requires below { All (λ (watch : Watch). watch.blocker_variable < variable_count trail.now) (watchers_of self.now falsified.now.literal) }
+        requires below { All (λ (watch : Watch). watch.blocker.variable < variable_count trail.now) (watchers_of self.now falsified.now.literal) }
         ensures placed { IfSome result (λ placed. IsPlaced (watchers_of self.now falsified.now.literal) placed) }
         ensures watching { IfSome result (λ placed. IsWatching (pairs_of self.now.watches) placed.watch.number falsified.now.literal) }
         ensures above { IfSome result (λ placed. from ≤ placed.place) }
@@ -410,7 +410,7 @@ impl Propagator {
     {
         let watcher = Watcher {
             placed: *placed,
-            other: placed.watch.blocker(),
+            other: placed.watch.blocker,
         };
         let value = trail.value(watcher.other);
         if value == Some(true) {

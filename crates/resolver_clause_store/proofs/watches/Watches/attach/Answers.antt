@@ -6,6 +6,6 @@ invariant_of-self c = record { watched = watched-lists _ _ _ c.in_err-push.ensur
 
 pub invariant_of-self-2 : goal.invariant_of-self-2
 invariant_of-self-2 c = record {
-  watched = rw c.set.ensures (watched-attach _ _ _ _ _ _ c.args.self.now.watched c.requires.number
+  watched = rw c.new.ensures (watched-attach _ _ _ _ _ _ c.args.self.now.watched c.requires.number
       (rw c.list_number.ensures at c.in_ok-push.ensures.pushed) c.requires.gains);
 }

@@ -1,38 +1,46 @@
-use Rattle.std.proofs.Common.{ap, refl, ◌∙◌}
+use Rattle.std.proofs.Common.{◌≡◌, ◌<◌, ◌∙◌, ap, length, refl, rules}
+use Rattle.std.proofs.lemmas.List.{get_or_read_under}
+use Rattle.std.specs.Vec.{vec_len}
 use Rattle.resolver_clause_store.specs.declared.literals.Literal.{Literal}
+use Rattle.resolver_clause_store.specs.declared.pairs.WatchedPair.{WatchedPair}
 use Rattle.resolver_clause_store.specs.ListPoolsView.{lists_in}
-use Rattle.resolver_clause_store.specs.Watches.{list_number, pair_at, replaced}
+use Rattle.resolver_clause_store.specs.Watches.{list_number, replaced, unwatched}
 use Rattle.resolver_clause_store.proofs.WatchListLemmas.{listed-watching, watched-lists, watching-number, IsMove, move-watched, move-moves, move-fit}
 use Rattle.resolver_clause_store.proofs.watches.Watches.move_watch.Goals as goal
 
 pub invariant_of-self : goal.invariant_of-self
 invariant_of-self c = record { watched = watched-lists _ _ _ c.in_err-push.ensures.unchanged.same c.args.self.now.watched }
 
-pub replace-requires : goal.replace-requires
-replace-requires c = watching-number _ _ c.args.from (listed-watching _ _ _ _ _ c.args.self.now.watched c.requires.placed)
+pub index_mut-requires : goal.index_mut-requires
+index_mut-requires c =
+    let size : vec_len c.args.self.now.pairs ≡ length c.args.self.now.pairs.items = search rules in
+    rw size (watching-number _ _ c.args.from (listed-watching _ _ _ _ _ c.args.self.now.watched c.requires.placed))
 
 -- the steps that were taken
-moves : (c : goal.After-replace) →
-    IsMove (lists_in c.args.self.now.lists) (lists_in c.push.new.self) (lists_in c.take.new.self) c.args.self.now.pairs c.args.from c.args.to
-    c.args.placed.now.place c.args.blocker c.args.start c.args.placed.now.watch (replaced (pair_at c.args.self.now.pairs c.args.placed.now.watch.number) c.args.from c.args.to)
+moves : (c : goal.After-self-2-1) →
+    IsMove (lists_in c.args.self.now.lists) (lists_in c.push.new.self) (lists_in c.take.new.self) c.args.self.now.pairs.items c.args.from c.args.to
+    c.args.placed.now.place c.args.blocker c.args.start c.args.placed.now.watch c.replace.new.self
 moves c =
     let from_list = c.list_number-2.ensures ∙ ap (λ (l : Literal). list_number l) c.copied-2.ensures in
     let to_list = c.list_number.ensures ∙ ap (λ (l : Literal). list_number l) c.copied.ensures in
+    let inside : c.args.placed.now.watch.number < length c.args.self.now.pairs.items =
+    watching-number _ _ c.args.from (listed-watching _ _ _ _ _ c.args.self.now.watched c.requires.placed) in
     record {
       differ = c.requires.differ;
       value = c.requires.placed;
-      inside = watching-number _ _ c.args.from (listed-watching _ _ _ _ _ c.args.self.now.watched c.requires.placed);
+      inside = inside;
       watching = listed-watching _ _ _ _ _ c.args.self.now.watched c.requires.placed;
-      pushed = rw (to_list, c.watch_of-moved.ensures) at c.in_ok-push.ensures.pushed;
+      pushed = rw to_list at c.in_ok-push.ensures.pushed;
       taken = rw from_list at c.take.ensures c.args.placed.now.watch;
-      pair_is = refl;
+      pair_is = c.replace.ensures ∙ ap (λ (p : WatchedPair). replaced p c.args.from c.args.to)
+          (get_or_read_under c.args.self.now.pairs.items c.args.placed.now.watch.number _ _ unwatched c.index_mut.ensures.value inside refl);
     }
 
 pub invariant_of-self-2 : goal.invariant_of-self-2
-invariant_of-self-2 c = record { watched = rw c.replace.ensures (move-watched _ _ _ _ _ _ _ _ _ _ _ (moves c) c.args.self.now.watched) }
+invariant_of-self-2 c = record { watched = move-watched _ _ _ _ _ _ _ _ _ _ _ (moves c) c.args.self.now.watched }
 
 pub returns-clause-moved : goal.returns-clause-moved
-returns-clause-moved c = rw c.replace.ensures (move-moves _ _ _ _ _ _ _ _ _ _ _ (moves c.before) _ c.requires.placed)
+returns-clause-moved c = move-moves _ _ _ _ _ _ _ _ _ _ _ (moves c.before) _ c.requires.placed
 
 pub returns-clause-fit : goal.returns-clause-fit
 returns-clause-fit c = λ table contains has. move-fit _ _ _ _ _ _ _ _ _ _ _ (moves c.before) table _ c.requires.placed contains has
