@@ -170,6 +170,23 @@ same-place : (trail : Trail) (variable other : ℕ) (s t : Slot) → slot_of tra
     variable ≡ other
 same-place trail variable other s t here there same = sym (trail.listed variable s here).1 ∙ ap (λ n. variable_at trail n) same ∙ (trail.listed other t there).1
 
+-- a variable that is not the only one of the highest level is resolved away: that one stays the only one
+pub single-below : (table : List (List Literal)) (trail : Trail) (old mid : List Bool) (level top variable number : ℕ) →
+    IsJustified table trail → IsReason trail variable number → is_marked old variable ≡ true → variable ≢ top → MarksAlso old mid (clause_at table number) →
+    IsSingle trail old level top → IsSingle trail (set mid variable false) level top
+single-below table trail old mid level top variable number justified reason marked differ so single = record {
+  slot = single.slot;
+  is = single.is;
+  marked = get_or-set_other mid variable top false false differ ∙ so.kept top single.marked;
+  level_is = single.level_is;
+  others = λ u t m at ne.
+      let f = lowered table trail old mid variable number reason justified so u t m at in
+      ⊎_elim
+      (λ yes. single.others u t yes at ne)
+      (λ w. omega (arith, (trail.rising u variable t reason.slot at reason.is w.1).0, single.others variable reason.slot marked reason.is differ))
+      f.2;
+}
+
 pub levelled-resolve : (table : List (List Literal)) (trail : Trail) (old new : Resolvent) (mid : List Bool) (variable number : ℕ) →
     IsJustified table trail → IsReason trail variable number → IsLevelled trail old (place_of trail variable + 1) → is_marked old.marks.items variable ≡ true →
     (0 < old.level → old.lowest < place_of trail variable) →

@@ -1,5 +1,5 @@
 -- Marked variables whose values contradict clauses.
-use Rattle.std.specs.Prelude.{◌≡◌, ◌≢◌, ℕ, ◌-◌, ◌<◌, ◌≤◌, ◌⊎◌, Bool, true, false, not, Contains, Some, List, [], length, All, Any, slice_index_or}
+use Rattle.std.specs.Prelude.{◌≡◌, ◌≢◌, ℕ, ◌-◌, ◌<◌, ◌≤◌, ◌⊎◌, Bool, true, false, not, Contains, Some, List, [], length, All, Any, slice_index_or, slice_set}
 use Rattle.std.specs.Bool.{beq}
 use Rattle.std.specs.Option.{option_map_or}
 use Rattle.resolver_clause_store.specs.declared.Literal.{Literal}
@@ -24,6 +24,10 @@ pub record MarksAlso (old new : List Bool) (clause : List Literal) : Type 0 wher
   pub kept : (variable : ℕ) → is_marked old variable ≡ true → is_marked new variable ≡ true
   pub all : All (λ (literal : Literal). is_marked new literal.variable ≡ true) clause
   pub only : (variable : ℕ) → is_marked old variable ≡ false → All (λ (literal : Literal). literal.variable ≢ variable) clause → is_marked new variable ≡ false
+
+-- the other variables of the clause are marked in place of this one
+abbrev pub IsReplaced : List Bool → List Bool → ℕ → List Literal → Type 0
+IsReplaced old new variable clause = (mid : List Bool) × MarksAlso old mid clause × (new ≡ slice_set mid variable false)
 
 -- each marked variable is listed, and each listed number is that of a variable
 pub record ListsMarks (marks : List Bool) (marked : List ℕ) : Type 0 where

@@ -7,9 +7,10 @@ ghost use Rattle.resolver_clause_store.specs.TrailView.{length_of, place_of, slo
 ghost use Rattle.resolvo.specs.Propagation.{IsConflict, IsJustified};
 ghost use Rattle.resolver_clause_store.specs.declared.Slot.{Slot};
 ghost use Rattle.resolver_clause_store.specs.declared.Literal.{Literal};
-ghost use Rattle.resolvo.specs.Resolvents.{AddsNegation, AllBefore, IsLevelled, IsReason, IsResolvent, IsSingle, IsUnmarked, AnalysisIs, ListsMarks, MarksAlso, age_in};
+ghost use Rattle.resolvo.specs.Resolvents.{AddsNegation, AllBefore, IsLevelled, IsReason, IsReplaced, IsResolvent, IsSingle, IsUnmarked, AnalysisIs, ListsMarks, MarksAlso, age_in};
 ghost use Rattle.resolvo.specs.Resolvents.{Negates, StandsAt, level_in, is_marked};
 
+use crate::minimizer::Minimizer;
 use resolver_clause_store::{Clauses, Literal, Reason, Trail, Variable, clause};
 use std::alloc::{AllocError, Global};
 use std::mem::replace;
@@ -217,9 +218,32 @@ pub fn begin(
     })
 }
 
-/// Resolves with a reason: marks its other variables in place of the one that it forced, which is the last marked one
-/// and not the only one of its level.
+/// Resolves with a reason: marks its other variables in place of the one that it forced.
 pub fn resolve(
+    table: &Clauses,
+    trail: &Trail,
+    resolvent: &mut Resolvent,
+    variable: Variable,
+    number: usize,
+) -> Result<(), AllocError>
+    requires below { AreBelow (variable_count trail.now) table.now }
+    requires justified { IsJustified table.now trail.now }
+    requires reason { IsReason trail.now variable number }
+    requires resolvent { IsResolvent table.now trail.now resolvent.old }
+    ensures resolvent { OnOk result (IsResolvent table.now trail.now resolvent.new) }
+    ensures marks { OnOk result (IsReplaced resolvent.old.marks.items resolvent.new.marks.items variable (clause_at table.now number)) }
+    ensures level { OnOk result (resolvent.new.level ≡ resolvent.old.level) }
+    ensures lowest { OnOk result (resolvent.new.lowest ≡ resolvent.old.lowest) }
+{
+    resolvent.causes.push(number)?;
+    let reason = clause(table, number);
+    mark_all(&mut resolvent.marks, &mut resolvent.marked, reason)?;
+    resolvent.marks[variable.index()] = false;
+    Ok(())
+}
+
+/// Resolves the last marked variable away, which is not the only one of its level.
+pub fn resolve_last(
     table: &Clauses,
     trail: &Trail,
     resolvent: &mut Resolvent,
@@ -236,11 +260,9 @@ pub fn resolve(
     ensures resolvent { OnOk result (IsResolvent table.now trail.now resolvent.new) }
     ensures levelled { OnOk result (IsLevelled trail.now resolvent.new (place_of trail.now variable)) }
 {
-    resolvent.causes.push(number)?;
-    let literals = clause(table, number);
-    mark_all(&mut resolvent.marks, &mut resolvent.marked, literals)?;
-    resolvent.marks[variable.index()] = false;
-    resolvent.lowest = lowest_place(trail, literals, resolvent.level, resolvent.lowest);
+    resolve(table, trail, resolvent, variable, number)?;
+    let reason = clause(table, number);
+    resolvent.lowest = lowest_place(trail, reason, resolvent.level, resolvent.lowest);
     Ok(())
 }
 
@@ -282,7 +304,7 @@ pub fn resolve_level(
             match trail.slot(variable) {
                 Some(slot) => match slot.reason {
                     Reason::Forced(number) => {
-                        resolve(table, trail, resolvent, variable, number as usize)?
+                        resolve_last(table, trail, resolvent, variable, number as usize)?
                     }
                     Reason::Decided(_) => return Ok(()),
                     Reason::Assumed => return Ok(()),
@@ -292,79 +314,6 @@ pub fn resolve_level(
         }
     }
     Ok(())
-}
-
-/// Returns whether all variables of a clause are marked.
-pub fn are_marked(marks: &[bool], clause: &[Literal]) -> bool
-    requires { IsBelow (length marks.now) clause.now }
-    ensures { MatchBool result (All (λ (literal : Literal). is_marked marks.now literal.variable ≡ true) clause.now)
-        (Any (λ (literal : Literal). is_marked marks.now literal.variable ≡ false) clause.now) }
-{
-    'literals: for literal in clause {
-        if !marks[literal.variable.index()] {
-            return false;
-        }
-    }
-    true
-}
-
-/// Unmarks a variable whose reason has marked variables only: their values imply its own.
-pub fn drop_implied(
-    table: &Clauses,
-    trail: &Trail,
-    resolvent: &mut Resolvent,
-    variable: Variable,
-    number: usize,
-) -> Result<(), AllocError>
-    requires justified { IsJustified table.now trail.now }
-    requires reason { IsReason trail.now variable number }
-    requires resolvent { IsResolvent table.now trail.now resolvent.old }
-    requires implied { All (λ (literal : Literal). is_marked resolvent.old.marks.items literal.variable ≡ true) (clause_at table.now number) }
-    ensures resolvent { OnOk result (IsResolvent table.now trail.now resolvent.new) }
-    ensures marks { OnOk result (resolvent.new.marks.items ≡ slice_set resolvent.old.marks.items variable false) }
-    ensures marked { OnOk result (resolvent.new.marked ≡ resolvent.old.marked) }
-    ensures level { OnOk result (resolvent.new.level ≡ resolvent.old.level) }
-    ensures lowest { OnOk result (resolvent.new.lowest ≡ resolvent.old.lowest) }
-{
-    resolvent.causes.push(number)?;
-    resolvent.marks[variable.index()] = false;
-    Ok(())
-}
-
-/// Unmarks a variable that the others imply, unless it is the only one of the highest level.
-pub fn minimize_at(
-    table: &Clauses,
-    trail: &Trail,
-    resolvent: &mut Resolvent,
-    variable: Variable,
-) -> Result<(), AllocError>
-    requires below { AreBelow (variable_count trail.now) table.now }
-    requires justified { IsJustified table.now trail.now }
-    requires resolvent { IsResolvent table.now trail.now resolvent.old }
-    requires inside { resolvent.old.lowest < length_of trail.now }
-    requires variable { variable < variable_count trail.now }
-    requires single { IsSingle trail.now resolvent.old.marks.items resolvent.old.level (variable_at trail.now resolvent.old.lowest) }
-    ensures resolvent { OnOk result (IsResolvent table.now trail.now resolvent.new) }
-    ensures single { OnOk result (IsSingle trail.now resolvent.new.marks.items resolvent.new.level (variable_at trail.now resolvent.new.lowest)) }
-    ensures marked { OnOk result (resolvent.new.marked ≡ resolvent.old.marked) }
-    ensures level { OnOk result (resolvent.new.level ≡ resolvent.old.level) }
-    ensures lowest { OnOk result (resolvent.new.lowest ≡ resolvent.old.lowest) }
-{
-    if variable == trail.variable_at(resolvent.lowest) {
-        return Ok(());
-    }
-    match forced_by(trail, variable) {
-        Some(number) => {
-            if resolvent.marks[variable.index()]
-                && are_marked(&resolvent.marks, clause(table, number))
-            {
-                drop_implied(table, trail, resolvent, variable, number)?;
-                return Ok(());
-            }
-            Ok(())
-        }
-        None => Ok(()),
-    }
 }
 
 /// Returns the number of the clause that forced a variable, or `None` if none did.
@@ -382,8 +331,45 @@ pub fn forced_by(trail: &Trail, variable: Variable) -> Option<usize>
     }
 }
 
-/// Minimizes the clause: unmarks variables that the other marked ones imply. The only one of the highest level stays.
-pub fn minimize(table: &Clauses, trail: &Trail, resolvent: &mut Resolvent) -> Result<(), AllocError>
+/// Resolves a variable away, if it is marked and a clause forced it, unless it is the only one of the highest level.
+pub fn drop_implied(
+    table: &Clauses,
+    trail: &Trail,
+    resolvent: &mut Resolvent,
+    variable: Variable,
+) -> Result<(), AllocError>
+    requires below { AreBelow (variable_count trail.now) table.now }
+    requires justified { IsJustified table.now trail.now }
+    requires resolvent { IsResolvent table.now trail.now resolvent.old }
+    requires inside { resolvent.old.lowest < length_of trail.now }
+    requires single { IsSingle trail.now resolvent.old.marks.items resolvent.old.level (variable_at trail.now resolvent.old.lowest) }
+    ensures resolvent { OnOk result (IsResolvent table.now trail.now resolvent.new) }
+    ensures single { OnOk result (IsSingle trail.now resolvent.new.marks.items resolvent.new.level (variable_at trail.now resolvent.new.lowest)) }
+    ensures level { OnOk result (resolvent.new.level ≡ resolvent.old.level) }
+    ensures lowest { OnOk result (resolvent.new.lowest ≡ resolvent.old.lowest) }
+{
+    if variable.index() >= trail.variable_count() {
+        return Ok(());
+    }
+    if variable == trail.variable_at(resolvent.lowest) || !resolvent.marks[variable.index()] {
+        return Ok(());
+    }
+    match forced_by(trail, variable) {
+        Some(number) => {
+            resolve(table, trail, resolvent, variable, number)?;
+            Ok(())
+        }
+        None => Ok(()),
+    }
+}
+
+/// Minimizes the clause: resolves the variables away that the other marked ones imply. The only one of the highest level stays.
+pub fn minimize(
+    minimizer: &mut Minimizer,
+    table: &Clauses,
+    trail: &Trail,
+    resolvent: &mut Resolvent,
+) -> Result<(), AllocError>
     requires below { AreBelow (variable_count trail.now) table.now }
     requires justified { IsJustified table.now trail.now }
     requires resolvent { IsResolvent table.now trail.now resolvent.old }
@@ -400,9 +386,17 @@ pub fn minimize(table: &Clauses, trail: &Trail, resolvent: &mut Resolvent) -> Re
     if resolvent.level == 0 {
         return Ok(());
     }
-    'marked: for index in 0..resolvent.marked.len() {
-        let variable = resolvent.marked[index];
-        minimize_at(table, trail, resolvent, variable)?;
+    minimizer.find_all(
+        table,
+        trail,
+        resolvent.marks.as_slice(),
+        resolvent.marked.as_slice(),
+        trail.variable_at(resolvent.lowest),
+    )?;
+    let implied = minimizer.implied();
+    'implied: for index in 0..implied.len() {
+        let variable = implied[implied.len() - 1 - index];
+        drop_implied(table, trail, resolvent, variable)?;
     }
     Ok(())
 }
@@ -517,6 +511,7 @@ fn sort_by_age(trail: &Trail, literals: &mut Vec<Literal>)
 pub fn analyze(
     alloc: Global,
     marks: &mut BlankMarks,
+    minimizer: &mut Minimizer,
     table: &Clauses,
     trail: &Trail,
     number: usize,
@@ -529,7 +524,7 @@ pub fn analyze(
     let blank = marks.take(alloc, trail.variable_count())?;
     let mut resolvent = begin(alloc, blank, table, trail, number)?;
     resolve_level(table, trail, &mut resolvent)?;
-    minimize(table, trail, &mut resolvent)?;
+    minimize(minimizer, table, trail, &mut resolvent)?;
     let mut literals = literals_of(
         alloc,
         trail,

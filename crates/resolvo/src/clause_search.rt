@@ -30,6 +30,7 @@ ghost use Rattle.resolvo.specs.Resolvents.{IsLearnt, level_in};
 use crate::analyze::{Analysis, BlankMarks, Learnt, analyze, asserted_level, highest_level};
 use crate::clause_state::{State, examine};
 use crate::contradiction::core;
+use crate::minimizer::Minimizer;
 use crate::places::Places;
 use crate::propagator::{Propagator, apply_all_pending, begins_level, propagate};
 use crate::restarts::{is_due, kept_level};
@@ -75,6 +76,8 @@ pub struct ClauseSearch {
     held: usize,
     /// Marks of the variables, for the analysis of a conflict.
     marks: BlankMarks,
+    /// What the analysis of a conflict knows of variables.
+    minimizer: Minimizer,
     /// The requirements that may be left to decide.
     queue: DecideQueue,
     ghost in_lists: { ∥ AreInLists table propagator.watches ∥₁ },
@@ -287,6 +290,7 @@ impl ClauseSearch {
             base: 0,
             held: 0,
             marks: BlankMarks::new(alloc),
+            minimizer: Minimizer::new(alloc),
             queue: DecideQueue::new(alloc, activity),
         }
     }
@@ -621,7 +625,14 @@ impl ClauseSearch {
         ensures below { IfOk result (λ answer. IfNone answer (learnt_count_of self.old < learnt_limit)) }
         ensures ids { IfErr result (λ e. e ≡ Ids → (learnt_limit ≤ learnt_count_of self.new) ⊎ (clause_limit ≤ clause_count_of self.new)) }
     {
-        match analyze(alloc, &mut self.marks, &self.table, &self.trail, number)? {
+        match analyze(
+            alloc,
+            &mut self.marks,
+            &mut self.minimizer,
+            &self.table,
+            &self.trail,
+            number,
+        )? {
             Analysis::Contradiction(causes) => {
                 let numbers = core(alloc, &self.table, &self.sources, causes.as_slice())?;
                 Ok(Some(Outcome::Contradiction(numbers)))

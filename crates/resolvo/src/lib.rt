@@ -9,6 +9,7 @@ mod contradiction;
 #[cfg(test)]
 mod encoding_tests;
 mod minimal;
+mod minimizer;
 mod owners;
 mod places;
 mod problem;

@@ -374,6 +374,29 @@ fn refutes_through_learnt(
     Ok(refutes(alloc, search, provider, wanted))
 }
 
+/// Returns whether a search learns a clause of these literals, from which others are left out that they imply.
+fn learns(
+    alloc: Global,
+    search: &mut ClauseSearch,
+    provider: &TestProvider,
+    table: &Clauses,
+    wanted: &[i32],
+) -> Result<bool, AllocError>
+    requires { IsConsistent search.old }
+{
+    if !load_all(alloc, search, table, 7)? {
+        return Ok(false);
+    }
+    if !finishes(alloc, search, provider) {
+        return Ok(false);
+    }
+    if search.table.len() != table.len().saturating_add(1) {
+        return Ok(false);
+    }
+    let wanted = clause_of(alloc, wanted)?;
+    Ok(clause(&search.table, table.len()) == wanted.as_slice())
+}
+
 /// Numbers of entries of a search's trail: those that were bookmarked; of these, those that are left after more clauses
 /// were loaded; all that are left then; and the bookmarked ones that are left after the next run.
 type Places = (usize, usize, usize, usize);
@@ -592,6 +615,8 @@ enum Task<'x> {
     /// The first four clauses have values, for which this many clauses are learnt. These clauses of all contradict each
     /// other.
     Core(usize, &'x [usize]),
+    /// A single clause is learnt, of these literals.
+    Learn(&'x [i32]),
     /// The first two clauses are decided before the others are loaded. Then these places are left.
     Keep(Places),
     /// The next decision alone has this result.
@@ -622,6 +647,7 @@ fn does(
         Task::Core(learnt, wanted) => {
             refutes_through_learnt(alloc, search, provider, table, *learnt, wanted)
         }
+        Task::Learn(wanted) => learns(alloc, search, provider, table, wanted),
         Task::Keep(wanted) => {
             let places = places_through(alloc, search, provider, table)?;
             Ok(places == Some(*wanted))
@@ -700,6 +726,21 @@ fn finds_with_pigeons(alloc: Global, task: &Task<'_>) -> Result<bool, AllocError
 #[test]
 fn six_pigeons_do_not_fit_into_five_holes(rt: HostRuntime) -> Result<(), Fail> {
     assert!(rt; finds_with_pigeons(rt.alloc(), &Task::Refute(81))?);
+    Ok(())
+}
+
+#[test]
+fn a_learnt_clause_lacks_what_its_others_imply(rt: HostRuntime) -> Result<(), Fail> {
+    // 1 forces 3, 3 forces 4, and 1 forces 7 beside 5. So 5 is false beside 1, whatever else the clauses contain.
+    let clauses: [&[i32]; 6] = [
+        &[1, 2],
+        &[-1, 3],
+        &[-3, 4],
+        &[5, 6],
+        &[-5, -1, 7],
+        &[-5, -7, -4],
+    ];
+    assert!(rt; finds(rt.alloc(), &clauses, &Task::Learn(&[-5, -1]))?);
     Ok(())
 }
 

@@ -3,9 +3,8 @@ use Rattle.resolver_clause_store.specs.TrailView.{variable_at}
 use Rattle.resolvo.specs.Resolvents.{IsResolvent, IsSingle}
 use Rattle.resolvo.proofs.analyze.minimize.Given as goal
 
-abbrev pub invariant-marked : goal.invariant-marked
-invariant-marked l =
+abbrev pub invariant-implied : goal.invariant-implied
+invariant-implied l =
     IsResolvent l.table l.trail l.resolvent ×
     IsSingle l.trail l.resolvent.marks.items l.resolvent.level (variable_at l.trail l.resolvent.lowest) ×
-    (l.resolvent.marked ≡ l.initial.resolvent.marked) × (l.resolvent.level ≡ l.initial.resolvent.level) ×
-    (l.resolvent.lowest ≡ l.initial.resolvent.lowest)
+    (l.resolvent.level ≡ l.initial.resolvent.level) × (l.resolvent.lowest ≡ l.initial.resolvent.lowest)
