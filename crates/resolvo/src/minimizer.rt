@@ -9,6 +9,11 @@ use crate::analyze::{forced_by, level_at};
 use resolver_clause_store::{Clauses, Literal, Trail, Variable, clause};
 use std::alloc::{AllocError, Global};
 
+/// The number of minimized clauses after which unmarked variables are looked at, too.
+///
+/// Each one that is implied adds a cause, and more causes make longer messages. Shorter clauses save time where there are many.
+const DEEP_FROM: usize = 1000;
+
 /// What is known of a variable.
 #[derive(Clone, Copy, PartialEq, Eq)]
 enum Standing {
@@ -44,6 +49,8 @@ pub struct Minimizer {
     path: Vec<Examination>,
     /// The implied variables. Each one comes after those of its reason.
     implied: Vec<Variable>,
+    /// The number of clauses that were minimized, this one included.
+    clauses: usize,
 }
 
 /// Returns the clause that forced a variable, or `None` if none did.
@@ -126,6 +133,7 @@ impl Minimizer {
             noted: Vec::new(alloc),
             path: Vec::new(alloc),
             implied: Vec::new(alloc),
+            clauses: 0,
         }
     }
 
@@ -194,11 +202,18 @@ impl Minimizer {
         None
     }
 
-    /// Begins to examine a variable. If no clause forced it, or no marked variable is of its level, it is independent.
-    fn enter(&mut self, trail: &Trail, variable: Variable) -> Result<(), AllocError> {
+    /// Begins to examine a variable. If no clause forced it, or no marked variable is of its level, it is independent; so
+    /// is an unmarked one while few clauses were minimized.
+    fn enter(
+        &mut self,
+        trail: &Trail,
+        marks: &[bool],
+        variable: Variable,
+    ) -> Result<(), AllocError> {
         if variable.index() < trail.variable_count()
             && forced_by(trail, variable).is_some()
             && self.levels.get(level_at(trail, variable)) == Some(&true)
+            && (self.clauses > DEEP_FROM || is_marked(marks, variable))
         {
             self.path.push(Examination { variable, next: 0 })?;
             return Ok(());
@@ -235,7 +250,7 @@ impl Minimizer {
             variable,
             next: place,
         })?;
-        self.enter(trail, other)?;
+        self.enter(trail, marks, other)?;
         Ok(())
     }
 
@@ -251,7 +266,7 @@ impl Minimizer {
     ) -> Result<(), AllocError>
         requires { IsJustified table.now trail.now }
     {
-        self.enter(trail, variable)?;
+        self.enter(trail, marks, variable)?;
         'steps: for _ in 0..trail.variable_count().saturating_mul(2) {
             match self.path.pop() {
                 Some(examination) => self.examine(table, trail, marks, examination)?,
@@ -273,6 +288,7 @@ impl Minimizer {
         requires { IsJustified table.now trail.now }
     {
         self.begin(trail, marked)?;
+        self.clauses = self.clauses.saturating_add(1);
         self.settle(asserted, Standing::Independent)?;
         'marked: for variable in marked {
             if is_marked(marks, *variable) && self.standing(*variable) == Standing::Unknown {

@@ -7,18 +7,18 @@ use Rattle.resolvo.proofs.propagator.Propagator.visit_watcher.Goals as goal
 
 pub value-value-requires : goal.value-value-requires
 value-value-requires c =
-    below-contains c.args.table.now _ c.args.placed.now.watch.number c.blocker.result c.requires.visiting.below
-    (rw c.blocker.ensures (fit-at _ _ _ _ _ c.requires.visiting.propagator.watched.fit c.requires.stands).own)
+    below-contains c.args.table.now _ c.args.placed.now.watch.number c.args.placed.now.watch.blocker c.requires.visiting.below
+    (fit-at _ _ _ _ _ c.requires.visiting.propagator.watched.fit c.requires.stands).own
 
 pub pass_by-requires-clause-satisfied : goal.pass_by-requires-clause-satisfied
 pass_by-requires-clause-satisfied c =
-    makes-true c.args.table.now c.args.trail.now c.args.placed.now.watch.number c.blocker.result
-    (rw c.blocker.ensures (fit-at _ _ _ _ _ c.requires.visiting.propagator.watched.fit c.requires.stands).own)
+    makes-true c.args.table.now c.args.trail.now c.args.placed.now.watch.number c.args.placed.now.watch.blocker
+    (fit-at _ _ _ _ _ c.requires.visiting.propagator.watched.fit c.requires.stands).own
     (tested-true _ _ c.if-eq.ensures c.value-value.ensures)
 
 pub force_binary-requires-clause-own : goal.force_binary-requires-clause-own
 force_binary-requires-clause-own c =
-    rw c.blocker.ensures (fit-at _ _ _ _ _ c.requires.visiting.propagator.watched.fit c.requires.stands).own
+    (fit-at _ _ _ _ _ c.requires.visiting.propagator.watched.fit c.requires.stands).own
 
 pub force_binary-requires-clause-two : goal.force_binary-requires-clause-two
 force_binary-requires-clause-two c =
