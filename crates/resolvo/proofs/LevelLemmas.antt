@@ -177,7 +177,7 @@ pub single-below : (table : List (List Literal)) (trail : Trail) (old mid : List
 single-below table trail old mid level top variable number justified reason marked differ so single = record {
   slot = single.slot;
   is = single.is;
-  marked = get_or-set_other mid variable top false false differ ∙ so.kept top single.marked;
+  marked = get_or-set_other mid variable top false false (λ e. differ (sym e)) ∙ so.kept top single.marked;
   level_is = single.level_is;
   others = λ u t m at ne.
       let f = lowered table trail old mid variable number reason justified so u t m at in
