@@ -12,7 +12,7 @@ use std::alloc::{AllocError, Global};
 /// The number of minimized clauses after which unmarked variables are looked at, too.
 ///
 /// Each one that is implied adds a cause, and more causes make longer messages. Shorter clauses save time where there are many.
-const DEEP_FROM: usize = 500;
+const DEEP_FROM: usize = 1000;
 
 /// What is known of a variable.
 #[derive(Clone, Copy, PartialEq, Eq)]
