@@ -1,5 +1,5 @@
 -- Marks of variables.
-use Rattle.std.proofs.Common.{◌≡◌, ◌≢◌, ℕ, ◌+◌, ◌<◌, ◌≤◌, List, length, get_or, set, take, Bool, true, false, arith, refl, sym, ◌∙◌, subst, ⊎_elim, length-set}
+use Rattle.std.proofs.Common.{◌≡◌, ◌≢◌, ℕ, ◌+◌, ◌<◌, ◌≤◌, List, length, get_or, set, take, Bool, true, false, arith, sym, ◌∙◌, subst, ⊎_elim, length-set}
 use Rattle.std.proofs.Common.{get_or-set_same, get_or-set_other, length-append, [], ◌∷◌, ◌++◌}
 use Rattle.std.proofs.Math.ListN.{get_or-append}
 use Rattle.std.proofs.Math.Seq.{get_or-append_seam}
@@ -46,8 +46,3 @@ unmarked-set marks at = ⊎_elim
 -- the mark that indexing read, if `is_marked` has this default
 pub marked-read : (marks : List Bool) (at : ℕ) (read value : Bool) → at < length marks → read ≡ get_or marks at read → read ≡ value → is_marked marks at ≡ value
 marked-read marks at read value inside is e = get_or_default marks at false read inside ∙ sym is ∙ e
-
--- marks that already include all variables of a clause
-pub marks-same : (marks : List Bool) (clause : List Literal) → All (λ (literal : Literal). is_marked marks literal.variable ≡ true) clause →
-    MarksAlso marks marks clause
-marks-same marks clause all = record { size = refl; kept = λ v m. m; all = all; only = λ v unmarked none. unmarked }
