@@ -374,27 +374,30 @@ fn refutes_through_learnt(
     Ok(refutes(alloc, search, provider, wanted))
 }
 
-/// Returns whether a search learns a clause of these literals, from which others are left out that they imply.
+/// Returns whether a run finds values and learns so many clauses, the last one of these literals.
 fn learns(
     alloc: Global,
     search: &mut ClauseSearch,
     provider: &TestProvider,
     table: &Clauses,
+    count: usize,
     wanted: &[i32],
 ) -> Result<bool, AllocError>
     requires { IsConsistent search.old }
 {
-    if !load_all(alloc, search, table, 7)? {
+    if !load_all(alloc, search, table, 3007)? {
         return Ok(false);
     }
-    if !finishes(alloc, search, provider) {
+    let found = search.run(alloc, provider, 100000, 100000);
+    if !matches!(found, Ok(Outcome::Finished)) || search.learnt_count() != count {
         return Ok(false);
     }
-    if search.table.len() != table.len().saturating_add(1) {
+    let last = search.table.len().saturating_sub(1);
+    if last >= search.table.len() {
         return Ok(false);
     }
     let wanted = clause_of(alloc, wanted)?;
-    Ok(clause(&search.table, table.len()) == wanted.as_slice())
+    Ok(clause(&search.table, last) == wanted.as_slice())
 }
 
 /// Numbers of entries of a search's trail: those that were bookmarked; of these, those that are left after more clauses
@@ -615,8 +618,8 @@ enum Task<'x> {
     /// The first four clauses have values, for which this many clauses are learnt. These clauses of all contradict each
     /// other.
     Core(usize, &'x [usize]),
-    /// A single clause is learnt, of these literals.
-    Learn(&'x [i32]),
+    /// So many clauses are learnt, the last one of these literals.
+    Learn(usize, &'x [i32]),
     /// The first two clauses are decided before the others are loaded. Then these places are left.
     Keep(Places),
     /// The next decision alone has this result.
@@ -647,7 +650,7 @@ fn does(
         Task::Core(learnt, wanted) => {
             refutes_through_learnt(alloc, search, provider, table, *learnt, wanted)
         }
-        Task::Learn(wanted) => learns(alloc, search, provider, table, wanted),
+        Task::Learn(count, wanted) => learns(alloc, search, provider, table, *count, wanted),
         Task::Keep(wanted) => {
             let places = places_through(alloc, search, provider, table)?;
             Ok(places == Some(*wanted))
@@ -729,10 +732,47 @@ fn six_pigeons_do_not_fit_into_five_holes(rt: HostRuntime) -> Result<(), Fail> {
     Ok(())
 }
 
+/// Returns clauses of which so many are learnt, one after another, and then these, of at most seven variables.
+fn after_clashes(alloc: Global, clashes: i32, clauses: &[&[i32]]) -> Result<Clauses, AllocError> {
+    let mut table = Clauses::new(alloc);
+    for clash in 0..clashes {
+        let first = clash.wrapping_mul(3).wrapping_add(8);
+        let (second, third) = (first.wrapping_add(1), first.wrapping_add(2));
+        table.push(&[literal(first), literal(second)])?;
+        table.push(&[literal(first.wrapping_neg()), literal(third)])?;
+        table.push(&[literal(first.wrapping_neg()), literal(third.wrapping_neg())])?;
+    }
+    for numbers in clauses {
+        table.push(&clause_of(alloc, numbers)?)?;
+    }
+    Ok(table)
+}
+
+/// Returns whether so many clauses are learnt, and then one of the wanted literals from these clauses.
+fn learns_after(
+    alloc: Global,
+    clashes: i32,
+    clauses: &[&[i32]],
+    wanted: &[i32],
+) -> Result<bool, AllocError> {
+    let table = after_clashes(alloc, clashes, clauses)?;
+    let count = (clashes.unsigned_abs() as usize).saturating_add(1);
+    is_done(alloc, &table, &Task::Learn(count, wanted))
+}
+
 #[test]
 fn a_learnt_clause_lacks_what_its_others_imply(rt: HostRuntime) -> Result<(), Fail> {
-    // 1 forces 3, 3 forces 4, and 1 forces 7 beside 5. So 5 is false beside 1, whatever else the clauses contain.
-    let clauses: [&[i32]; 6] = [
+    // 1 forces 3, and 3 forces 4. 1 forces 7 beside 5.
+    let both: [&[i32]; 6] = [
+        &[1, 2],
+        &[-1, 3],
+        &[-3, 4],
+        &[5, 6],
+        &[-5, -1, 7],
+        &[-5, -7, -3, -4],
+    ];
+    assert!(rt; learns_after(rt.alloc(), 0, &both, &[-5, -1])?);
+    let last: [&[i32]; 6] = [
         &[1, 2],
         &[-1, 3],
         &[-3, 4],
@@ -740,7 +780,9 @@ fn a_learnt_clause_lacks_what_its_others_imply(rt: HostRuntime) -> Result<(), Fa
         &[-5, -1, 7],
         &[-5, -7, -4],
     ];
-    assert!(rt; finds(rt.alloc(), &clauses, &Task::Learn(&[-5, -1]))?);
+    assert!(rt; learns_after(rt.alloc(), 0, &last, &[-5, -4, -1])?);
+    assert!(rt; learns_after(rt.alloc(), 999, &last, &[-5, -4, -1])?);
+    assert!(rt; learns_after(rt.alloc(), 1000, &last, &[-5, -1])?);
     Ok(())
 }
 
