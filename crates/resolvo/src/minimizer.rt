@@ -1,8 +1,6 @@
 //! Finds the variables of a learnt clause that its others imply.
 
-ghost use Rattle.std.specs.Prelude.{◌≡◌, ◌<◌, IfSome, length};
-ghost use Rattle.resolver_clause_store.specs.Formula.{AreBelow};
-ghost use Rattle.resolver_clause_store.specs.TrailView.{variable_count};
+ghost use Rattle.std.specs.Prelude.{◌<◌, IfSome, length};
 ghost use Rattle.resolvo.specs.Propagation.{IsJustified};
 
 use crate::analyze::{forced_by, level_at};
@@ -18,9 +16,9 @@ const DEEP_FROM: usize = 1000;
 #[derive(Clone, Copy, PartialEq, Eq)]
 enum Standing {
     Unknown,
-    /// Marked variables of lower places imply it.
+    /// Marked variables before it on the trail imply it.
     Implied,
-    /// They do not, as far as was looked.
+    /// They do not, as far as the search looked.
     Independent,
 }
 
