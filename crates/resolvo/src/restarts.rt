@@ -7,11 +7,18 @@ use resolver_clause_store::{
     Choice, Clauses, DecideQueue, Literal, Reason, StoredRequirement, Trail, Variable, clause,
 };
 
-/// Returns whether a restart is due: after each second learnt clause, in a search of at most four levels.
+/// The number of learnt clauses from which on a search is long. The conflicts of others have shorter messages with more restarts.
+const LONG_FROM: usize = 500;
+
+/// Returns whether a restart is due: after each second learnt clause, in a search of at most four levels, and in a long
+/// search after each third, if it has at most five.
 ///
 /// What a restart undoes has to be decided again, so it does not pay in a search of many levels.
 pub fn is_due(learnt: usize, levels: usize) -> bool {
-    learnt % 2 == 0 && levels <= 4
+    if learnt < LONG_FROM {
+        return learnt % 2 == 0 && levels <= 4;
+    }
+    learnt % 3 == 0 && levels <= 5
 }
 
 /// What decides which of two requirements comes first, before their candidates are counted.
