@@ -3,7 +3,7 @@ use Rattle.std.proofs.Common.{◌≡◌, ◌≢◌, ℕ, ◌&&◌, Bool, true, f
 use Rattle.resolver_clause_store.specs.declared.literals.Literal.{Literal}
 use Rattle.resolver_clause_store.specs.declared.pairs.WatchedSign.{WatchedSign}
 use Rattle.resolver_clause_store.specs.declared.pairs.WatchedSign.TheVariants.{Negative, Positive, Unwatched}
-use Rattle.resolver_clause_store.specs.WatchedPairs.{literal_from}
+use Rattle.resolver_clause_store.specs.StoredPairs.{literal_from}
 use Rattle.resolver_clause_store.specs.Watches.{is_watched}
 
 pub watched-is : (variable : ℕ) (sign : WatchedSign) (literal : Literal) (s : Bool) →

@@ -23,7 +23,7 @@ pub mod Variables
 pub mod Outcomes
 pub mod Settled
 pub mod Watches
-pub mod WatchedPairs
+pub mod StoredPairs
 pub mod WatchesView
 pub mod Unsatisfied
 pub mod UnionEnds

@@ -31,7 +31,7 @@ pub struct StoredRequirement {
 
 /// Clauses by number. In contracts, they are the list of the clauses' literals.
 ///
-/// The literals lie one behind another in one list, so a clause takes eight bytes for each literal and four for itself.
+/// The literals lie one behind another in one list, so a clause takes five bytes for each literal and four for itself.
 #[derive(Drop)]
 pub struct Clauses {
     literals: Vec<Literal>,

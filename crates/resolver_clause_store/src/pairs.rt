@@ -3,7 +3,7 @@
 ghost use Rattle.std.specs.Prelude.{◌≡◌, ◌≢◌, ℕ, MatchBool, Some, if◌then◌else◌};
 ghost use Rattle.resolver_clause_store.specs.Watches.{IsPair, is_watched, replaced};
 ghost use Rattle.resolver_clause_store.specs.declared.literals.Literal.{Literal};
-ghost use Rattle.resolver_clause_store.specs.WatchedPairs.{literal_from};
+ghost use Rattle.resolver_clause_store.specs.StoredPairs.{literal_from};
 
 use crate::literals::{Literal, Variable};
 use std::marker::Model;
@@ -104,7 +104,7 @@ pub struct StoredPair {
 
 impl Model for StoredPair {
     ghost use Rattle.resolver_clause_store.specs.declared.pairs.WatchedPair.{WatchedPair};
-    ghost use Rattle.resolver_clause_store.specs.WatchedPairs.{literal_from};
+    ghost use Rattle.resolver_clause_store.specs.StoredPairs.{literal_from};
 
     ghost Value = { WatchedPair };
 

@@ -1,4 +1,4 @@
--- How the literals that a clause watches are stored.
+-- How the two literals that a clause watches are stored.
 use Rattle.std.specs.Prelude.{ℕ, true, false, Option, Some, None}
 use Rattle.resolver_clause_store.specs.declared.literals.Literal.{Literal}
 use Rattle.resolver_clause_store.specs.declared.pairs.WatchedSign.{WatchedSign}
