@@ -7,7 +7,9 @@ use resolver_clause_store::{
     Choice, Clauses, DecideQueue, Literal, Reason, StoredRequirement, Trail, Variable, clause,
 };
 
-/// The number of learnt clauses from which on a search is long. In a shorter one, the rule for long ones makes the message of a conflict longer.
+/// The number of learnt clauses from which on a search is long.
+///
+/// In a shorter one, the rule for long ones makes the message of a conflict longer.
 const LONG_FROM: usize = 500;
 
 /// Returns whether a restart is due: after each second learnt clause, in a search of at most four levels, and in a long

@@ -10,7 +10,7 @@ use std::test::Fail;
 
 #[test]
 fn each_second_learnt_clause_makes_a_restart_due(rt: HostRuntime) -> Result<(), Fail> {
-    assert!(rt; is_due(2, 1) && is_due(4, 1) && is_due(498, 1));
+    assert!(rt; is_due(2, 1) && is_due(4, 1) && is_due(496, 1));
     assert!(rt; !is_due(1, 1) && !is_due(3, 1) && !is_due(499, 1));
     Ok(())
 }
@@ -28,7 +28,7 @@ fn each_third_learnt_clause_makes_a_restart_due_in_a_long_search(
 fn no_restart_is_due_above_four_levels_or_five_in_a_long_search(
     rt: HostRuntime,
 ) -> Result<(), Fail> {
-    assert!(rt; is_due(2, 4) && !is_due(2, 5));
+    assert!(rt; is_due(2, 4) && !is_due(2, 5) && !is_due(498, 5));
     assert!(rt; is_due(501, 5) && !is_due(501, 6));
     Ok(())
 }
