@@ -12,7 +12,7 @@ use Rattle.resolver_clause_store.specs.declared.StoredRequirement.{StoredRequire
 use Rattle.resolver_clause_store.specs.declared.Slot.{Slot}
 use Rattle.resolver_clause_store.specs.declared.Trail.{Trail}
 use Rattle.resolver_clause_store.specs.Formula.{clause_at}
-use Rattle.resolver_clause_store.specs.Outcomes.{IsFalseBefore, IsFalsified}
+use Rattle.resolver_clause_store.specs.Outcomes.{IsFalsified}
 use Rattle.resolver_clause_store.specs.TrailView.{literal_value, slot_of}
 use Rattle.resolver_clause_store.proofs.FormulaLemmas.{beq-false, clause_at-get_or}
 use Rattle.resolver_clause_store.proofs.TrailLemmas.{value-false}
@@ -20,8 +20,7 @@ use Rattle.resolvo.specs.declared.clause_search.ClauseSearch.{ClauseSearch}
 use Rattle.resolvo.specs.Sources.{Source}
 use Rattle.resolvo.specs.ClauseSearches.{IsConsistent, IsLoaded}
 use Rattle.resolvo.specs.Derivations.{AreGiven, IsDerived, given_at}
-use Rattle.resolvo.specs.Propagation.{IsJustified}
-use Rattle.resolvo.specs.Resolvents.{AreDrawn, IsDrawn, IsReason, MarksAlso, Negates, is_marked}
+use Rattle.resolvo.specs.Resolvents.{AreDrawn, ImpliesValue, IsDrawn, IsOwnOrFalse, MarksAlso, Negates, is_marked}
 use Rattle.resolvo.proofs.JustifiedLemmas.{why}
 use Rattle.resolvo.proofs.MarkLemmas.{unmarked-set}
 use Rattle.resolvo.proofs.NegationLemmas.{negation}
@@ -66,26 +65,25 @@ drawn-begin table trail old marks number falsified unmarked so = record {
 drawn-more : (table : List (List Literal)) (causes : List ℕ) (number : ℕ) (l : Literal) → IsDrawn table causes l → IsDrawn table (causes ++ number ∷ []) l
 drawn-more table causes number l d = record { number = d.number; listed = Contains-append_left causes (number ∷ []) d.number d.listed; stands = d.stands }
 
--- the literals of its reason take the place of a variable
-pub drawn-resolve : (table : List (List Literal)) (trail : Trail) (old mid : List Bool) (causes : List ℕ) (variable number : ℕ) →
-    AreDrawn table trail old causes → IsJustified table trail → IsReason trail variable number → MarksAlso old mid (clause_at table number) →
+-- the other literals of a clause that implies it take the place of a variable
+pub drawn-implied : (table : List (List Literal)) (trail : Trail) (old mid : List Bool) (causes : List ℕ) (variable number : ℕ) →
+    AreDrawn table trail old causes → ImpliesValue trail (clause_at table number) variable → MarksAlso old mid (clause_at table number) →
     AreDrawn table trail (set mid variable false) (causes ++ number ∷ [])
-drawn-resolve table trail old mid causes variable number drawn justified reason so = record {
+drawn-implied table trail old mid causes variable number drawn implied so = record {
   each = λ v s m at.
       let differ : v ≢ variable = λ e. both_ways _ (unmarked-set mid variable) (ap (λ k. is_marked (set mid variable false) k) (sym e) ∙ m) in
-      let it : Literal = record { variable = variable; positive = reason.slot.value } in
       let middle : is_marked mid v ≡ true = sym (get_or-set_other mid variable v false false differ) ∙ m in
       ⊎_elim
       (λ (was : is_marked old v ≡ true). drawn-more table causes number (negation v s) (drawn.each v s was at))
       (λ (unmarked : is_marked old v ≡ false). ⊎_elim
       (λ (w : (l : Literal) × Contains (clause_at table number) l × (l.variable ≡ v)). ⊎_elim
-      (λ (e : w.0 ≡ it). absurd (differ (sym w.2 ∙ ap (λ (l : Literal). l.variable) e)))
-      (λ (f : IsFalseBefore trail reason.slot.place w.0).
-      let same : f.slot ≡ s = same_Some _ _ (sym f.is ∙ ap (λ n. slot_of trail n) w.2 ∙ at) in
+      (λ (own : (w.0.variable ≡ variable) × (literal_value trail w.0 ≡ Some true)). absurd (differ (sym w.2 ∙ own.0)))
+      (λ (other : (w.0.variable ≢ variable) × (literal_value trail w.0 ≡ Some false)).
+      let f = value-false _ _ other.1 in
+      let same : f.0 ≡ s = same_Some _ _ (sym f.1 ∙ ap (λ n. slot_of trail n) w.2 ∙ at) in
       drawn-from table (causes ++ number ∷ []) number v s w.0 (Contains-push causes number) w.1
-      (negates-slot trail w.0 v s w.2 (f.is ∙ ap Some same) (beq-false _ _ f.false_there ∙ ap (λ (t : Slot). not t.value) same)))
-      (All-contains (λ (l : Literal). (l ≡ it) ⊎ IsFalseBefore trail reason.slot.place l) (clause_at table number) w.0
-      (justified.forced variable reason.slot number reason.is reason.reason) w.1))
+      (negates-slot trail w.0 v s w.2 (f.1 ∙ ap Some same) (beq-false _ _ f.2 ∙ ap (λ (t : Slot). not t.value) same)))
+      (All-contains (IsOwnOrFalse trail variable) (clause_at table number) w.0 implied w.1))
       (λ none. absurd (both_ways _ (so.only v unmarked none) middle))
       (named v (clause_at table number)))
       (cases_Bool (is_marked old v));

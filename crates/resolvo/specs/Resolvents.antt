@@ -8,7 +8,7 @@ use Rattle.resolver_clause_store.specs.declared.Reason.TheVariants.{Forced}
 use Rattle.resolver_clause_store.specs.declared.Trail.{Trail}
 use Rattle.resolver_clause_store.specs.Formula.{MakesTrue, FollowsFrom, clause_at}
 use Rattle.resolver_clause_store.specs.Outcomes.{IsFalsified}
-use Rattle.resolver_clause_store.specs.TrailView.{length_of, place_of, slot_of, variable_count}
+use Rattle.resolver_clause_store.specs.TrailView.{length_of, literal_value, place_of, slot_of, variable_count}
 use Rattle.resolvo.specs.declared.analyze.Resolvent.{Resolvent}
 use Rattle.resolvo.specs.declared.analyze.Learnt.{Learnt}
 use Rattle.resolvo.specs.declared.analyze.Analysis.{Analysis}
@@ -111,6 +111,21 @@ pub record IsReason (trail : Trail) (variable number : ℕ) : Type 0 where
   pub slot : Slot
   pub is : slot_of trail variable ≡ Some slot
   pub reason : slot.reason ≡ Forced number
+
+-- the literal is the true one of the variable, or is of another variable and false
+abbrev pub IsOwnOrFalse : Trail → ℕ → Literal → Type 0
+IsOwnOrFalse trail variable literal =
+    ((literal.variable ≡ variable) × (literal_value trail literal ≡ Some true)) ⊎
+    ((literal.variable ≢ variable) × (literal_value trail literal ≡ Some false))
+
+-- the clause implies the variable's value: its literals of other variables are false
+abbrev pub ImpliesValue : Trail → List Literal → ℕ → Type 0
+ImpliesValue trail clause variable = All (IsOwnOrFalse trail variable) clause
+
+-- the literal is of the variable, or of a lower level than this one, or of this one and not before the place `lowest`
+abbrev pub IsLow : Trail → ℕ → ℕ → ℕ → Literal → Type 0
+IsLow trail variable level lowest literal =
+    (literal.variable ≢ variable) → (slot : Slot) → slot_of trail literal.variable ≡ Some slot → (slot.level ≤ level) × (slot.level ≡ level → lowest ≤ slot.place)
 
 -- the literals are false under the trail, one for each marked variable that has a value
 pub record Negates (trail : Trail) (marks : List Bool) (literals : List Literal) : Type 0 where

@@ -1,17 +1,19 @@
 //! Conflict analysis: learns a clause from a conflict.
 
 ghost use Rattle.std.specs.List.Sorted.{IsNonDecreasingBy, IsPermutation};
-ghost use Rattle.std.specs.Prelude.{◌≡◌, ◌≢◌, ◌⊎◌, ◌+◌, ◌<◌, ◌≤◌, length, All, Any, IfOk, IfSome, MatchBool, OnOk, Some, ℕ, false, not, slice_set, true};
+ghost use Rattle.std.specs.Prelude.{◌≡◌, ◌≢◌, ◌⊎◌, ◌+◌, ◌*◌, ◌<◌, ◌≤◌, length, All, Any, IfOk, IfSome, MatchBool, OnOk, Some, ℕ, false, not, slice_set, true};
 ghost use Rattle.resolver_clause_store.specs.Formula.{AreBelow, IsBelow, clause_at};
+ghost use Rattle.resolver_clause_store.specs.WatchesView.{lists_of};
 ghost use Rattle.resolver_clause_store.specs.TrailView.{length_of, place_of, slot_of, variable_at, variable_count};
 ghost use Rattle.resolvo.specs.Propagation.{IsConflict, IsJustified};
 ghost use Rattle.resolver_clause_store.specs.declared.Slot.{Slot};
 ghost use Rattle.resolver_clause_store.specs.declared.Literal.{Literal};
-ghost use Rattle.resolvo.specs.Resolvents.{AddsNegation, AllBefore, IsLevelled, IsReason, IsReplaced, IsResolvent, IsSingle, IsUnmarked, AnalysisIs, ListsMarks, MarksAlso, age_in};
+ghost use Rattle.resolvo.specs.Resolvents.{AddsNegation, AllBefore, ImpliesValue, IsLevelled, IsReason, IsReplaced, IsResolvent, IsSingle, IsUnmarked, AnalysisIs, ListsMarks, MarksAlso, age_in};
 ghost use Rattle.resolvo.specs.Resolvents.{Negates, StandsAt, level_in, is_marked};
 
 use crate::minimizer::Minimizer;
-use resolver_clause_store::{Clauses, Literal, Reason, Trail, Variable, clause};
+use crate::strengthener::{Strengthener, strengthen};
+use resolver_clause_store::{Clauses, Literal, Reason, Trail, Variable, Watches, clause};
 use std::alloc::{AllocError, Global};
 use std::mem::replace;
 
@@ -218,6 +220,31 @@ pub fn begin(
     })
 }
 
+/// Resolves with a clause that implies a variable: marks its other variables in place of that one.
+pub fn resolve_with(
+    table: &Clauses,
+    trail: &Trail,
+    resolvent: &mut Resolvent,
+    variable: Variable,
+    number: usize,
+) -> Result<(), AllocError>
+    requires below { AreBelow (variable_count trail.now) table.now }
+    requires inside { number < length table.now }
+    requires known { variable < variable_count trail.now }
+    requires implied { ImpliesValue trail.now (clause_at table.now number) variable }
+    requires resolvent { IsResolvent table.now trail.now resolvent.old }
+    ensures resolvent { OnOk result (IsResolvent table.now trail.now resolvent.new) }
+    ensures marks { OnOk result (IsReplaced resolvent.old.marks.items resolvent.new.marks.items variable (clause_at table.now number)) }
+    ensures level { OnOk result (resolvent.new.level ≡ resolvent.old.level) }
+    ensures lowest { OnOk result (resolvent.new.lowest ≡ resolvent.old.lowest) }
+{
+    resolvent.causes.push(number)?;
+    let reason = clause(table, number);
+    mark_all(&mut resolvent.marks, &mut resolvent.marked, reason)?;
+    resolvent.marks[variable.index()] = false;
+    Ok(())
+}
+
 /// Resolves with a reason: marks its other variables in place of the one that it forced.
 pub fn resolve(
     table: &Clauses,
@@ -235,10 +262,7 @@ pub fn resolve(
     ensures level { OnOk result (resolvent.new.level ≡ resolvent.old.level) }
     ensures lowest { OnOk result (resolvent.new.lowest ≡ resolvent.old.lowest) }
 {
-    resolvent.causes.push(number)?;
-    let reason = clause(table, number);
-    mark_all(&mut resolvent.marks, &mut resolvent.marked, reason)?;
-    resolvent.marks[variable.index()] = false;
+    resolve_with(table, trail, resolvent, variable, number)?;
     Ok(())
 }
 
@@ -512,10 +536,13 @@ pub fn analyze(
     alloc: Global,
     marks: &mut BlankMarks,
     minimizer: &mut Minimizer,
+    strengthener: &mut Strengthener,
+    watches: &Watches,
     table: &Clauses,
     trail: &Trail,
     number: usize,
 ) -> Result<Analysis, AllocError>
+    requires lists { length (lists_of watches.now) ≡ 2 * variable_count trail.now }
     requires below { AreBelow (variable_count trail.now) table.now }
     requires justified { IsJustified table.now trail.now }
     requires conflict { IsConflict trail.now table.now number }
@@ -525,6 +552,7 @@ pub fn analyze(
     let mut resolvent = begin(alloc, blank, table, trail, number)?;
     resolve_level(table, trail, &mut resolvent)?;
     minimize(minimizer, table, trail, &mut resolvent)?;
+    strengthen(strengthener, table, trail, watches, &mut resolvent)?;
     let mut literals = literals_of(
         alloc,
         trail,

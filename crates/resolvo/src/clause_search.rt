@@ -35,6 +35,7 @@ use crate::places::Places;
 use crate::propagator::{Propagator, apply_all_pending, begins_level, propagate};
 use crate::restarts::{is_due, kept_level};
 use crate::sources::Sources;
+use crate::strengthener::Strengthener;
 use resolver_clause_store::{
     Activity, Choice, Clauses, DecideQueue, DependencyProvider, Exhausted, Interrupted, Literal,
     Owner, RequirementClause, StoredRequirement, Trail, UnionEnds, check_cancel, clause, narrow,
@@ -78,6 +79,8 @@ pub struct ClauseSearch {
     marks: BlankMarks,
     /// What the analysis of a conflict knows of variables.
     minimizer: Minimizer,
+    /// What it knows of other clauses that imply them.
+    strengthener: Strengthener,
     /// The requirements that may be left to decide.
     queue: DecideQueue,
     ghost in_lists: { ∥ AreInLists table propagator.watches ∥₁ },
@@ -291,6 +294,7 @@ impl ClauseSearch {
             held: 0,
             marks: BlankMarks::new(alloc),
             minimizer: Minimizer::new(alloc),
+            strengthener: Strengthener::new(alloc),
             queue: DecideQueue::new(alloc, activity),
         }
     }
@@ -629,6 +633,8 @@ impl ClauseSearch {
             alloc,
             &mut self.marks,
             &mut self.minimizer,
+            &mut self.strengthener,
+            self.propagator.watches(),
             &self.table,
             &self.trail,
             number,

@@ -20,6 +20,8 @@ mod rounds;
 mod scanning;
 mod solver;
 mod sources;
+mod standings;
+mod strengthener;
 #[cfg(test)]
 mod test_provider;
 

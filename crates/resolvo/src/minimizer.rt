@@ -4,6 +4,7 @@ ghost use Rattle.std.specs.Prelude.{◌<◌, IfSome, length};
 ghost use Rattle.resolvo.specs.Propagation.{IsJustified};
 
 use crate::analyze::{forced_by, level_at};
+use crate::standings::{Standing, Standings, is_marked};
 use resolver_clause_store::{Clauses, Literal, Trail, Variable, clause};
 use std::alloc::{AllocError, Global};
 
@@ -11,16 +12,6 @@ use std::alloc::{AllocError, Global};
 ///
 /// Each one that is implied adds a cause, and more causes make longer messages. Shorter clauses save time where there are many.
 const DEEP_FROM: usize = 1000;
-
-/// What is known of a variable.
-#[derive(Clone, Copy, PartialEq, Eq)]
-enum Standing {
-    Unknown,
-    /// Marked variables before it on the trail imply it.
-    Implied,
-    /// They do not, as far as the search looked.
-    Independent,
-}
 
 /// A variable whose reason is being examined.
 #[derive(Clone, Copy)]
@@ -35,10 +26,7 @@ struct Examination {
 /// No contract speaks of what it finds. It chooses steps of resolution, each of which gives a clause that follows.
 #[derive(Drop)]
 pub struct Minimizer {
-    /// The standing of each variable. A variable without an entry is independent.
-    standings: Vec<Standing>,
-    /// The variables whose standing is known.
-    settled: Vec<Variable>,
+    standings: Standings,
     /// For each level, whether a marked variable is of it.
     levels: Vec<bool>,
     /// The levels of the marked variables.
@@ -61,23 +49,6 @@ fn reason_of<'x>(table: &'x Clauses, trail: &Trail, variable: Variable) -> Optio
     match forced_by(trail, variable) {
         Some(number) => Some(clause(table, number)),
         None => None,
-    }
-}
-
-/// Returns whether a variable is marked.
-fn is_marked(marks: &[bool], variable: Variable) -> bool {
-    match marks.get(variable.index()) {
-        Some(marked) => *marked,
-        None => false,
-    }
-}
-
-/// Forgets the standings of these variables.
-fn forget_standings(standings: &mut Vec<Standing>, settled: &[Variable]) {
-    'variables: for variable in settled {
-        if variable.index() < standings.len() {
-            standings[variable.index()] = Standing::Unknown;
-        }
     }
 }
 
@@ -125,8 +96,7 @@ impl Minimizer {
     /// Returns a minimizer that knows of no variable.
     pub fn new(alloc: Global) -> Self {
         Minimizer {
-            standings: Vec::new(alloc),
-            settled: Vec::new(alloc),
+            standings: Standings::new(alloc),
             levels: Vec::new(alloc),
             noted: Vec::new(alloc),
             path: Vec::new(alloc),
@@ -140,34 +110,13 @@ impl Minimizer {
         self.implied.as_slice()
     }
 
-    /// Returns what is known of a variable.
-    fn standing(&self, variable: Variable) -> Standing {
-        match self.standings.get(variable.index()) {
-            Some(standing) => *standing,
-            None => Standing::Independent,
-        }
-    }
-
-    /// Settles the standing of a variable.
-    fn settle(&mut self, variable: Variable, standing: Standing) -> Result<(), AllocError> {
-        let index = variable.index();
-        if index < self.standings.len() {
-            self.standings[index] = standing;
-            self.settled.push(variable)?;
-        }
-        Ok(())
-    }
-
     /// Forgets what is known, and notes the levels of the marked variables.
     fn begin(&mut self, trail: &Trail, marked: &[Variable]) -> Result<(), AllocError> {
-        forget_standings(&mut self.standings, self.settled.as_slice());
-        self.settled.clear();
         forget_levels(&mut self.levels, self.noted.as_slice());
         self.noted.clear();
         self.path.clear();
         self.implied.clear();
-        self.standings
-            .resize(trail.variable_count(), Standing::Unknown)?;
+        self.standings.begin(trail.variable_count())?;
         self.levels.resize(trail.level().saturating_add(1), false)?;
         note_levels(&mut self.levels, &mut self.noted, trail, marked)?;
         Ok(())
@@ -175,8 +124,9 @@ impl Minimizer {
 
     /// Returns whether a variable of a reason is no obstacle: it is implied, or it is marked, and its own standing is known.
     fn is_passed(&self, marks: &[bool], variable: Variable) -> bool {
-        match self.standing(variable) {
+        match self.standings.of(variable) {
             Standing::Unknown => false,
+            Standing::Entered => false,
             Standing::Implied => true,
             Standing::Independent => is_marked(marks, variable),
         }
@@ -216,7 +166,7 @@ impl Minimizer {
             self.path.push(Examination { variable, next: 0 })?;
             return Ok(());
         }
-        self.settle(variable, Standing::Independent)?;
+        self.standings.settle(variable, Standing::Independent)?;
         Ok(())
     }
 
@@ -235,13 +185,13 @@ impl Minimizer {
             return Ok(());
         };
         let Some(place) = self.next_literal(marks, reason, examination) else {
-            self.settle(variable, Standing::Implied)?;
+            self.standings.settle(variable, Standing::Implied)?;
             self.implied.push(variable)?;
             return Ok(());
         };
         let other = reason[place].variable;
-        if self.standing(other) != Standing::Unknown {
-            self.settle(variable, Standing::Independent)?;
+        if self.standings.of(other) != Standing::Unknown {
+            self.standings.settle(variable, Standing::Independent)?;
             return Ok(());
         }
         self.path.push(Examination {
@@ -287,9 +237,9 @@ impl Minimizer {
     {
         self.begin(trail, marked)?;
         self.clauses = self.clauses.saturating_add(1);
-        self.settle(asserted, Standing::Independent)?;
+        self.standings.settle(asserted, Standing::Independent)?;
         'marked: for variable in marked {
-            if is_marked(marks, *variable) && self.standing(*variable) == Standing::Unknown {
+            if is_marked(marks, *variable) && self.standings.of(*variable) == Standing::Unknown {
                 self.find(table, trail, marks, *variable)?;
             }
         }

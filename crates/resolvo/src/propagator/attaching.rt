@@ -35,6 +35,13 @@ impl Propagator {
         }
     }
 
+    /// Returns the clauses that watch each literal.
+    pub fn watches(&self) -> &Watches
+        ensures { result.now ≡ self.now.watches }
+    {
+        &self.watches
+    }
+
     /// Makes room for the literals of new variables, up to `variables` of them.
     pub fn grow(&mut self, variables: usize) -> Result<(), AllocError>
         requires { length (lists_of self.old.watches) ≤ 2 * variables }

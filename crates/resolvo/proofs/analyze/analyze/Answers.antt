@@ -7,16 +7,16 @@ use Rattle.resolvo.proofs.analyze.analyze.Goals as goal
 
 pub returns : goal.returns
 returns c =
-    let resolvent = c.in_ok-minimize.ensures.resolvent in
+    let resolvent = c.in_ok-strengthen.ensures.resolvent in
     let negates = negates-permuted _ _ _ _ c.sort_by_age.ensures.same (rw c.as_slice.ensures.value at c.in_ok-literals.ensures) in
-    let some : 0 < c.minimize.new.resolvent.level = omega arith in
-    let single = rw (← c.variable_at-variable.ensures.value) at (c.in_ok-minimize.ensures.single some) in
+    let some : 0 < c.strengthen.new.resolvent.level = omega arith in
+    let single = rw (← c.variable_at-variable.ensures.value) at (c.in_ok-strengthen.ensures.single some) in
     record {
       within = resolvent.within;
       follows = learnt-follows _ _ _ _ _ resolvent.refutes negates;
       drawn = drawn-learnt _ _ _ _ _ resolvent.drawn negates;
       falsified = negates.falsified;
-      asserting = asserting _ _ _ _ c.minimize.new.resolvent.level _ c.variable_at-variable.result single negates some c.negation_of-literal.ensures
+      asserting = asserting _ _ _ _ c.strengthen.new.resolvent.level _ c.variable_at-variable.result single negates some c.negation_of-literal.ensures
           (rw c.as_slice-4.ensures.value at c.backtrack_level-backtrack_level.ensures.top)
           (rw c.as_slice-4.ensures.value at c.backtrack_level-backtrack_level.ensures.reached);
     }

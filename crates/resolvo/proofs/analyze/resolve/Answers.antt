@@ -1,25 +1,5 @@
-use Rattle.std.proofs.Common.{refl, rules, length, ◌<◌}
-use Rattle.std.proofs.lemmas.List.Elements.{All-push}
-use Rattle.resolvo.proofs.ResolutionLemmas.{refutes-resolve}
-use Rattle.resolvo.proofs.DrawnLemmas.{drawn-resolve}
-use Rattle.resolvo.proofs.ListedLemmas.{lists-fewer}
-use Rattle.resolvo.proofs.MarkLemmas.{unmarked-set}
+use Rattle.resolvo.proofs.ResolutionLemmas.{implies-reason}
 use Rattle.resolvo.proofs.analyze.resolve.Goals as goal
 
-pub returns-clause-resolvent : goal.returns-clause-resolvent
-returns-clause-resolvent c = record {
-  size = search rules;
-  listed = rw c.index.ensures (lists-fewer _ _ c.args.variable (unmarked-set _ c.args.variable) (c.in_ok-mark_all.ensures.listed c.requires.resolvent.listed));
-  within = rw c.in_ok-push.ensures.items
-      (All-push (λ n. n < length c.args.table.now) _ _ c.requires.resolvent.within
-      (c.requires.justified.within _ _ _ c.requires.reason.is c.requires.reason.reason));
-  refutes = rw (c.in_ok-push.ensures.items, c.index.ensures)
-      (refutes-resolve _ _ _ _ _ _ _ c.requires.resolvent.refutes c.requires.justified c.requires.reason
-      (rw c.clause-reason.ensures at c.in_ok-mark_all.ensures.marks));
-  drawn = rw (c.in_ok-push.ensures.items, c.index.ensures)
-      (drawn-resolve _ _ _ _ _ _ _ c.requires.resolvent.drawn c.requires.justified c.requires.reason
-      (rw c.clause-reason.ensures at c.in_ok-mark_all.ensures.marks));
-}
-
-pub returns-clause-marks : goal.returns-clause-marks
-returns-clause-marks c = rw c.index.ensures (c.mark_all.new.marks.items, rw c.clause-reason.ensures at c.in_ok-mark_all.ensures.marks, refl)
+pub resolve_with-requires-clause-implied : goal.resolve_with-requires-clause-implied
+resolve_with-requires-clause-implied c = implies-reason _ _ _ _ c.requires.justified c.requires.reason
