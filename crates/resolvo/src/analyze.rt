@@ -523,7 +523,7 @@ fn age_of(trail: &Trail, literal: Literal) -> usize
 }
 
 /// Sorts literals by age, the youngest first. The next time, too, that is likely to become false last, so it is worth watching.
-fn sort_by_age(trail: &Trail, literals: &mut Vec<Literal>)
+pub fn sort_by_age(trail: &Trail, literals: &mut Vec<Literal>)
     ensures same { IsPermutation literals.old.items literals.new.items }
     ensures sorted { IsNonDecreasingBy (age_in trail.now) literals.new.items }
 {

@@ -8,6 +8,7 @@ mod conflict;
 mod contradiction;
 #[cfg(test)]
 mod encoding_tests;
+mod generalizer;
 mod minimal;
 mod minimizer;
 mod owners;

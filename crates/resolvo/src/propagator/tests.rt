@@ -9,6 +9,7 @@ ghost use Rattle.resolvo.specs.Propagation.{IsJustified};
 ghost use Rattle.resolvo.specs.Propagators.{IsPropagator};
 ghost use Rattle.resolvo.specs.declared.propagator.Propagator.{Propagator};
 
+mod generalizing;
 mod strengthening;
 
 use super::*;
@@ -64,6 +65,27 @@ fn random_clause(alloc: Global, seed: u64) -> Result<Vec<Literal>, AllocError> {
         literals.push(literal(third, (seed >> 45) % 2 == 0))?;
     }
     Ok(literals)
+}
+
+/// Returns the variable of a positive number, counted from 1, or the negation of that of a negative one.
+fn literal_of(number: i32) -> Literal {
+    Literal {
+        variable: Variable::new(number.unsigned_abs().saturating_sub(1)),
+        positive: number > 0,
+    }
+}
+
+/// Returns clauses, each given by its literals' numbers.
+fn table_of(alloc: Global, clauses: &[&[i32]]) -> Result<Clauses, AllocError> {
+    let mut table = Clauses::new(alloc);
+    for numbers in clauses {
+        let mut literals = Vec::new(alloc);
+        for number in *numbers {
+            literals.push(literal_of(*number))?;
+        }
+        table.push(&literals)?;
+    }
+    Ok(table)
 }
 
 /// Returns 10 to 29 random clauses.

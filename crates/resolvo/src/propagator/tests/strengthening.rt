@@ -6,26 +6,6 @@ use crate::strengthener::Strengthener;
 /// The number of variables of a problem.
 const VARIABLES: usize = 4;
 
-/// Returns the variable of a positive number, counted from 1, or the negation of that of a negative one.
-fn literal_of(number: i32) -> Literal {
-    Literal {
-        variable: Variable::new(number.unsigned_abs().saturating_sub(1)),
-        positive: number > 0,
-    }
-}
-
-fn table_of(alloc: Global, clauses: &[&[i32]]) -> Result<Clauses, AllocError> {
-    let mut table = Clauses::new(alloc);
-    for numbers in clauses {
-        let mut literals = Vec::new(alloc);
-        for number in *numbers {
-            literals.push(literal_of(*number))?;
-        }
-        table.push(&literals)?;
-    }
-    Ok(table)
-}
-
 /// Returns a strengthener that has begun with this learnt clause, counted from 1, and whether it is to be strengthened. Each
 /// clause has this highest level.
 fn begun(alloc: Global, count: usize, level: usize) -> Result<(Strengthener, bool), AllocError> {

@@ -2,7 +2,7 @@ use Rattle.resolvo.proofs.LoadLemmas.{finished_for, first-after, loaded-trail, p
 use Rattle.resolvo.proofs.TurnLemmas.{consistent-descended, turn-trans}
 use Rattle.resolvo.proofs.WatchedLemmas.{in_lists, owned-either}
 use Rattle.std.proofs.Common.{◌∙◌}
-use Rattle.resolver_encoding.proofs.RefusalLemmas.{shortage_at_limit, IfErr-of, IfErr-stop}
+use Rattle.resolver_encoding.proofs.RefusalLemmas.{shortage_at_limit, shortage_of_memory, IfErr-of, IfErr-stop}
 use Rattle.std.proofs.lemmas.Result.{IfOk-from_err}
 use Rattle.resolvo.proofs.clause_search.ClauseSearch.run.Goals as goal
 
@@ -33,31 +33,38 @@ returns-in-None g c =
       refusal = tt;
     }
 
-pub learn-requires-clause-consistent : goal.learn-requires-clause-consistent
-learn-requires-clause-consistent g c =
+pub generalize-requires-clause-consistent : goal.generalize-requires-clause-consistent
+generalize-requires-clause-consistent g c =
     let wanted = c.as_slice.ensures.value in
     consistent-descended c.conflicts.self _ _ _ _ c.conflicts.invariant.0 c.in_ok-descend.ensures.size c.in_ok-descend.ensures.justified
     (rw wanted at c.in_ok-descend.ensures.chosen) c.in_ok-descend.ensures.kept c.in_ok-descend.ensures.propagator
     (rw wanted at c.in_ok-descend.ensures.queued)
+
+pub learn-requires-clause-consistent : goal.learn-requires-clause-consistent
+learn-requires-clause-consistent g c = c.in_ok-generalize-in-Some.ensures.consistent
+
+pub learn-requires-clause-conflict : goal.learn-requires-clause-conflict
+learn-requires-clause-conflict g c = c.in_ok-generalize-in-Some.ensures.conflict
 
 pub returns-in-Some-2 : goal.returns-in-Some-2
 returns-in-Some-2 g c =
     record {
       outcome = λ given numbers before.
           let core = rw c.in-Some-2.is at c.in_ok-outcome-in-Some.ensures.outcome in
-          core given numbers (loaded-trail c.conflicts.self _ _ _ _ given numbers (c.conflicts.invariant.1.loaded given numbers before));
+          core given numbers (c.in_ok-generalize-in-Some.ensures.same.loaded given numbers
+          (loaded-trail c.conflicts.self _ _ _ _ given numbers (c.conflicts.invariant.1.loaded given numbers before)));
       consistent = c.in_ok-outcome-in-Some.ensures.consistent;
       loaded = λ given numbers before.
-          c.in_ok-outcome-in-Some.ensures.same.loaded given numbers
-          (loaded-trail c.conflicts.self _ _ _ _ given numbers (c.conflicts.invariant.1.loaded given numbers before));
-      variables = c.in_ok-outcome-in-Some.ensures.same.variables ∙ (c.in_ok-descend.ensures.size ∙ c.conflicts.invariant.1.variables);
+          c.in_ok-outcome-in-Some.ensures.same.loaded given numbers (c.in_ok-generalize-in-Some.ensures.same.loaded given numbers
+          (loaded-trail c.conflicts.self _ _ _ _ given numbers (c.conflicts.invariant.1.loaded given numbers before)));
+      variables = c.in_ok-outcome-in-Some.ensures.same.variables ∙ (c.in_ok-generalize-in-Some.ensures.same.variables ∙ (c.in_ok-descend.ensures.size ∙ c.conflicts.invariant.1.variables));
       kept = λ base keeps.
-          c.in_ok-outcome-in-Some.ensures.same.kept base
+          c.in_ok-outcome-in-Some.ensures.same.kept base (c.in_ok-generalize-in-Some.ensures.same.kept base
           (first-after c.conflicts.self.trail c.descend.new.trail c.conflicts.self.kept c.in_ok-descend.ensures.kept base
-          (c.conflicts.invariant.1.kept base keeps));
+          (c.conflicts.invariant.1.kept base keeps)));
       turn = let step = problem-descended _ c.conflicts.self c.descend.new.trail c.descend.new.propagator c.descend.new.queue _ c.conflicts.invariant.0
           c.conflicts.invariant.1 c.in_ok-descend.ensures.size c.in_ok-descend.ensures.kept c.in_ok-descend.ensures.assumed in
-          turn-trans _ _ _ step.turn c.in_ok-outcome-in-Some.ensures.same.turn;
+          turn-trans _ _ _ (turn-trans _ _ _ step.turn c.in_ok-generalize-in-Some.ensures.same.turn) c.in_ok-outcome-in-Some.ensures.same.turn;
       refusal = tt;
     }
 
@@ -68,9 +75,10 @@ conflicts-preserved g c =
       jump.consistent,
       problem-trans _ _ _
           (problem-trans _ _ _
+          (problem-trans _ _ _
           (problem-descended _ c.conflicts.self c.descend.new.trail c.descend.new.propagator c.descend.new.queue _ c.conflicts.invariant.0
           c.conflicts.invariant.1
-          c.in_ok-descend.ensures.size c.in_ok-descend.ensures.kept c.in_ok-descend.ensures.assumed) step.same)
+          c.in_ok-descend.ensures.size c.in_ok-descend.ensures.kept c.in_ok-descend.ensures.assumed) c.in_ok-generalize-in-Some.ensures.same) step.same)
           jump.same,
     )
 
@@ -96,8 +104,8 @@ descend-requires-clause-chosen g c = rw c.as_slice.ensures.value c.conflicts.inv
 pub descend-requires-clause-queued : goal.descend-requires-clause-queued
 descend-requires-clause-queued g c = rw c.as_slice.ensures.value c.conflicts.invariant.0.queued
 
-pub learn-requires-clause-conflict : goal.learn-requires-clause-conflict
-learn-requires-clause-conflict g c = rw c.in-Some.is at c.in_ok-descend.ensures.conflict
+pub generalize-requires-clause-conflict : goal.generalize-requires-clause-conflict
+generalize-requires-clause-conflict g c = rw c.in-Some.is at c.in_ok-descend.ensures.conflict
 
 pub returns-in_err-descend : goal.returns-in_err-descend
 returns-in_err-descend g c =
@@ -109,6 +117,18 @@ returns-in_err-descend g c =
       kept = IfOk-from_err c.from_residual.result _ c.from_residual.ensures.0;
       turn = IfOk-from_err c.from_residual.result _ c.from_residual.ensures.0;
       refusal = IfErr-stop c.from_residual.result (g.D.DependencyProvider.may_cancel c.args.provider.now) _ _ c.from_residual.ensures.1 c.in_err-descend.ensures.refusal;
+    }
+
+pub returns-in_err-generalize-in-Some : goal.returns-in_err-generalize-in-Some
+returns-in_err-generalize-in-Some g c =
+    record {
+      outcome = IfOk-from_err c.from_residual-in_err-generalize-in-Some.result _ c.from_residual-in_err-generalize-in-Some.ensures.0;
+      consistent = IfOk-from_err c.from_residual-in_err-generalize-in-Some.result _ c.from_residual-in_err-generalize-in-Some.ensures.0;
+      loaded = IfOk-from_err c.from_residual-in_err-generalize-in-Some.result _ c.from_residual-in_err-generalize-in-Some.ensures.0;
+      variables = IfOk-from_err c.from_residual-in_err-generalize-in-Some.result _ c.from_residual-in_err-generalize-in-Some.ensures.0;
+      kept = IfOk-from_err c.from_residual-in_err-generalize-in-Some.result _ c.from_residual-in_err-generalize-in-Some.ensures.0;
+      turn = IfOk-from_err c.from_residual-in_err-generalize-in-Some.result _ c.from_residual-in_err-generalize-in-Some.ensures.0;
+      refusal = IfErr-of c.from_residual-in_err-generalize-in-Some.result _ _ c.from_residual-in_err-generalize-in-Some.ensures.1 (shortage_of_memory _ _ c.in_err-generalize-in-Some.ensures.memory);
     }
 
 pub returns-in_err-outcome-in-Some : goal.returns-in_err-outcome-in-Some
