@@ -7,8 +7,8 @@ ghost use Rattle.resolvo.specs.Propagation.{IsConflict, IsJustified};
 ghost use Rattle.resolvo.specs.Resolvents.{IsGeneral, IsReason, IsResolvent, IsUnmarked};
 
 use crate::analyze::{
-    BlankMarks, Resolvent, begin, forced_by, is_single, level_at, literals_of, lowest_place, resolve,
-    sort_by_age, unmark_all,
+    BlankMarks, Resolvent, begin, forced_by, is_single, level_at, literals_of, lowest_place,
+    resolve, sort_by_age, unmark_all,
 };
 use crate::minimizer::Minimizer;
 use resolver_clause_store::{Clauses, DecideQueue, Literal, Owner, Trail, Variable, clause};

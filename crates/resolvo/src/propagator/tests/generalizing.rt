@@ -1,7 +1,10 @@
 //! Which second clause is found in a conflict, and in which conflicts one is looked for.
 
-ghost use Rattle.resolvo.specs.Propagation.{IsConflict};
-ghost use Rattle.std.specs.Prelude.{IfSome};
+ghost use Rattle.std.specs.Prelude.{◌≡◌, IfOk, IfSome, OnOk};
+ghost use Rattle.resolver_clause_store.specs.Formula.{AreBelow};
+ghost use Rattle.resolver_clause_store.specs.TrailView.{variable_count};
+ghost use Rattle.resolvo.specs.Propagation.{IsConflict, IsJustified};
+ghost use Rattle.resolvo.specs.Propagators.{IsPropagator};
 
 use super::*;
 use crate::analyze::BlankMarks;
@@ -32,6 +35,37 @@ fn false_clause(
     Ok(answer)
 }
 
+/// Propagates, and returns the second clause of the conflict that this comes to.
+fn found_in(
+    alloc: Global,
+    queue: &DecideQueue,
+    trail: &mut Trail,
+    table: &Clauses,
+    propagator: &mut Propagator,
+) -> Result<Option<General>, AllocError>
+    requires below { AreBelow (variable_count trail.old) table.now }
+    requires justified { IsJustified table.now trail.old }
+    requires propagator { IsPropagator table.now trail.old propagator.old }
+{
+    match false_clause(trail, table, propagator)? {
+        Some(number) => {
+            let mut marks = BlankMarks::new(alloc);
+            let mut generalizer = Generalizer::new(alloc);
+            let general = generalize(
+                alloc,
+                &mut marks,
+                &mut generalizer,
+                queue,
+                table,
+                trail,
+                number,
+            )?;
+            Ok(general)
+        }
+        None => Ok(None),
+    }
+}
+
 /// Decides the first variable, propagates, and returns the second clause of the conflict. The variables have these packages.
 fn found(
     alloc: Global,
@@ -53,23 +87,8 @@ fn found(
     let mut propagator = begin(alloc, &mut trail, &table, VARIABLES)?;
     false_clause(&mut trail, &table, &mut propagator)?;
     set(&mut trail, literal_of(1))?;
-    match false_clause(&mut trail, &table, &mut propagator)? {
-        Some(number) => {
-            let mut marks = BlankMarks::new(alloc);
-            let mut generalizer = Generalizer::new(alloc);
-            let general = generalize(
-                alloc,
-                &mut marks,
-                &mut generalizer,
-                &queue,
-                &table,
-                &trail,
-                number,
-            )?;
-            Ok(general)
-        }
-        None => Ok(None),
-    }
+    let general = found_in(alloc, &queue, &mut trail, &table, &mut propagator)?;
+    Ok(general)
 }
 
 /// The first literal implies by two clauses that the second and the third are false, and these by three that one of them is true.

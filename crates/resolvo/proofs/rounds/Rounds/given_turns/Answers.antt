@@ -1,4 +1,4 @@
-use Rattle.std.proofs.Common.{Option, subst, sym}
+use Rattle.std.proofs.Common.{Option, [], refl, subst, sym}
 use Rattle.resolvo.specs.Problems.{AreFirstItems, AreItems}
 use Rattle.std.proofs.lemmas.Result.{IfOk-from_err}
 use Rattle.resolver_encoding.proofs.RefusalLemmas.{IfErr-of}
@@ -26,6 +26,11 @@ returns-in_ok-solvable_turns-in-Some g c =
       limits = c.solvable_turns.ensures.limits;
       refusal = tt;
     }
+
+pub returns-in-None-clause-over : goal.returns-in-None-clause-over
+returns-in-None-clause-over g c = λ root b led.
+    let Items : Option g.row.I.Denot → Type 0 = λ soft. AreItems g.I.Iterator.next_gives soft [] in
+    ([], subst Items (sym c.in-None.is) refl, b, led)
 
 pub returns-in_err-solvable_turns-in-Some : goal.returns-in_err-solvable_turns-in-Some
 returns-in_err-solvable_turns-in-Some g c =
