@@ -678,7 +678,8 @@ impl ClauseSearch {
             && clause_limit.saturating_sub(self.table.len()) > 1
     }
 
-    /// Learns a clause that asserts no literal from a false clause, if the search is long and there is one that is worth it.
+    /// Learns a clause that asserts no literal from a false clause, if the search is long and there is one that is
+    /// worth it.
     fn generalize(
         &mut self,
         alloc: Global,

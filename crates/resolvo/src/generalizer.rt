@@ -27,9 +27,10 @@ const PATIENCE: usize = 8;
 
 /// A learnt clause that asserts no literal: it has several of the highest level.
 ///
-/// The clause that is learnt beside it has one literal in their place, whose negation implies by clauses of two literals that they are false. They may
-/// become false in other ways, which this clause rules out, too. In a conflict about pigeons, it says that one of some pigeons has to be in one of some
-/// holes, and the other clause only that a certain pigeon may not take the last of these holes from them.
+/// The clause that is learnt beside it has one literal in their place, whose negation implies by clauses of two
+/// literals that they are false. They may become false in other ways, which this clause rules out, too. In a conflict
+/// about pigeons, it says that one of some pigeons has to be in one of some holes, and the other clause only that a
+/// certain pigeon may not take the last of these holes from them.
 #[derive(Drop)]
 pub struct General {
     pub literals: Vec<Literal>,
@@ -100,7 +101,8 @@ fn resolve_reason(
 
 /// Resolves the marked variables, last one first, down to a place, but not beyond the first unique implication point.
 ///
-/// Returns the lowest place of a variable whose reason had more than two literals, or the end of the trail if none had.
+/// Returns the lowest place of a variable whose reason had more than two literals, or the end of the trail if none
+/// had.
 fn resolve_down(
     table: &Clauses,
     trail: &Trail,
@@ -132,8 +134,8 @@ fn resolve_down(
     Ok(long)
 }
 
-/// Resolves a false clause down to the first unique implication point. Returns the marks cleared, and the lowest place of a variable whose reason
-/// had more than two literals, or the end of the trail if none had.
+/// Resolves a false clause down to the first unique implication point. Returns the marks cleared, and the lowest
+/// place of a variable whose reason had more than two literals, or the end of the trail if none had.
 fn last_long(
     alloc: Global,
     blank: Vec<bool>,
@@ -246,9 +248,11 @@ fn are_of_packages(queue: &DecideQueue, literals: &[Literal]) -> bool {
     true
 }
 
-/// Returns whether a clause is worth its keep: its literals of the highest level, which come first, are a few, of solvables of different packages.
+/// Returns whether a clause is worth its keep: its literals of the highest level, which come first, are a few, of
+/// solvables of different packages.
 ///
-/// Versions of one package are false as soon as another version is chosen, so many clauses would speak of nothing else.
+/// Versions of one package are false as soon as another version is chosen, so many clauses would speak of nothing
+/// else.
 fn is_worth_it(trail: &Trail, queue: &DecideQueue, literals: &[Literal], level: usize) -> bool {
     let count = top_count(trail, literals, level);
     if level == 0 || count < 2 || MOST < count {
@@ -257,9 +261,11 @@ fn is_worth_it(trail: &Trail, queue: &DecideQueue, literals: &[Literal], level: 
     are_of_packages(queue, &literals[..count])
 }
 
-/// Analyzes a false clause once more: finds a clause beside the one that is to be learnt from it, if there is one that is worth it.
+/// Analyzes a false clause once more: finds a clause beside the one that is to be learnt from it, if there is one
+/// that is worth it.
 ///
-/// It is what the false clause has become when it is resolved for the last time with a reason of more than two literals, minimized.
+/// It is what the false clause has become when it is resolved for the last time with a reason of more than two
+/// literals, minimized.
 pub fn generalize(
     alloc: Global,
     marks: &mut BlankMarks,

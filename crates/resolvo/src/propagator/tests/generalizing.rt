@@ -66,7 +66,8 @@ fn found_in(
     }
 }
 
-/// Decides the first variable, propagates, and returns the second clause of the conflict. The variables have these packages.
+/// Decides the first variable, propagates, and returns the second clause of the conflict. The variables have these
+/// packages.
 fn found(
     alloc: Global,
     clauses: &[&[i32]],
@@ -91,7 +92,8 @@ fn found(
     Ok(general)
 }
 
-/// The first literal implies by two clauses that the second and the third are false, and these by three that one of them is true.
+/// The first literal implies by two clauses that the second and the third are false, and these by three that one of
+/// them is true.
 const BOTH_FALSE: [&[i32]; 5] = [&[-1, -2], &[-1, -3], &[2, 3, 4], &[-4, 2, 5], &[-4, -5, 3]];
 
 #[test]
