@@ -22,7 +22,8 @@ const LONG_FROM: usize = 500;
 /// The number of literals of the highest level that such a clause has, at most.
 const MOST: usize = 8;
 
-/// The number of conflicts in a row without such a clause for each of which one more conflict is left out.
+/// The number of conflicts in a row without such a clause after which one conflict is left out each time. After twice as
+/// many two are, and so on.
 const PATIENCE: usize = 8;
 
 /// A learnt clause that asserts no literal: it has several of the highest level.
