@@ -1,5 +1,5 @@
 -- The outcome of a request.
-use Rattle.std.specs.Prelude.{◌≡◌, ◌≤◌, ◌==◌, ℕ, Bool, IfSome, List, Option, ⊤, length, string_bytes}
+use Rattle.std.specs.Prelude.{◌≡◌, ◌==◌, ℕ, Bool, List, Option, ⊤, string_bytes}
 use Rattle.std.specs.Io.KnownBytes.{Appends}
 use Rattle.resolver_clause_store.specs.Universe.{Demands, Universe}
 use Rattle.resolver_clause_store.specs.declared.Rule.{Rule}
@@ -15,7 +15,6 @@ use Rattle.resolve.specs.declared.ids.SolvableId.{SolvableId}
 use Rattle.resolve.specs.declared.request.Request.{Request}
 use Rattle.resolve.specs.declared.run.Outcome.{Outcome}
 use Rattle.resolve.specs.declared.run.Outcome.TheVariants.{Answer, Conflict}
-use Rattle.resolve.specs.declared.run.messages.Shortest.{Shortest}
 use Rattle.resolve.specs.Catalogs.{catalog_universe, same_solvable_ids}
 
 abbrev pub same_name_ids : NameId → NameId → Bool
@@ -24,17 +23,6 @@ same_name_ids a b = a.0 == b.0
 -- the message of the graph of some rules, in the texts of a catalog
 abbrev pub conflict_message : Catalog → List (Rule NameId SolvableId) → List ℕ
 conflict_message it rules = message (catalog_universe it) (graph_of same_name_ids same_solvable_ids rules)
-
--- the text is the message of some rules, and these explain whatever the given rules explain
-pub record IsMessageFrom (it : Catalog) (given : List (Rule NameId SolvableId)) (text : List ℕ) : Type 0 where
-  pub rules : List (Rule NameId SolvableId)
-  pub explain : (u : Universe NameId SolvableId) (root : Demands) → Explains u root given → Explains u root rules
-  pub is : text ≡ conflict_message it rules
-
--- the text, if there is one, is such a message and has so many bytes; the message of the given rules has at least as many
-abbrev pub IsShortest : Catalog → List (Rule NameId SolvableId) → Shortest → Type 0
-IsShortest it given shortest = (shortest.length ≤ length (conflict_message it given)) ×
-    IfSome shortest.text (λ text. IsMessageFrom it given (string_bytes text) × (length (string_bytes text) ≡ shortest.length))
 
 -- the demands of a request
 abbrev pub demands_of : Request → Demands

@@ -1,23 +1,21 @@
 //! From an input to an answer, with the streams of a program.
 
-mod messages;
-
-ghost use Rattle.std.specs.Prelude.{◌≡◌, ◌≢◌, ◌<◌, ◌≤◌, IfErr, IfOk, OnOk};
+ghost use Rattle.std.specs.Prelude.{◌≡◌, ◌≢◌, ◌<◌, ◌≤◌, IfErr, IfOk, OnOk, string_bytes};
 ghost use Rattle.std.specs.Io.KnownBytes.{Appends};
 ghost use Rattle.resolver_clause_store.specs.declared.data.Exhausted.TheVariants.{Memory};
 ghost use Rattle.resolve.specs.declared.run.Fault.TheVariants.{Exhausted as RanOut};
+ghost use Rattle.resolvo.specs.Conflicts.{rules_in};
 ghost use Rattle.resolvo.specs.Solvers.{provider_in};
 ghost use Rattle.resolve.specs.Faults.{exhausted_text, fault_of, status_of};
-ghost use Rattle.resolve.specs.Outcomes.{IsConflictWritten, IsExplained, IsOutcomeOf, IsSomeOutcome};
+ghost use Rattle.resolve.specs.Outcomes.{IsConflictWritten, IsExplained, IsOutcomeOf, IsSomeOutcome, conflict_message};
 ghost use Rattle.resolve.specs.declared.request.Request.{Request};
 
-use self::messages::conflict_text;
 use crate::catalog::Catalog;
 use crate::ids::{NameId, SolvableId};
 use crate::request::{InputError, Request, read_request};
 use itertools::Itertools;
 use resolver_clause_store::Exhausted;
-use resolvo::{Problem, Solver, UnsolvableOrCancelled};
+use resolvo::{Conflict, Problem, Solver, UnsolvableOrCancelled};
 use std::alloc::{AllocError, AllocFailed, Global};
 use std::io::{Read, Write};
 use std::{io, mem};
@@ -276,6 +274,19 @@ fn refusal_of(
         UnsolvableOrCancelled::Exhausted(e) => Err(Fault::Exhausted(*e)),
         UnsolvableOrCancelled::Cancelled(value) => match *value {},
     }
+}
+
+/// Returns the message of a conflict.
+fn conflict_text(
+    solver: &Solver<Catalog>,
+    conflict: &Conflict<NameId, SolvableId>,
+) -> Result<String, Fault>
+    ensures { IfOk result (λ text. string_bytes text ≡ conflict_message (provider_in solver.now) (rules_in conflict.now)) }
+{
+    let message = conflict.display_user_friendly(solver)?;
+    let text = message.text();
+    drop(message);
+    Ok(text?)
 }
 
 /// Returns the lines of the chosen solvables, ordered by the bytes of the names and then by version.

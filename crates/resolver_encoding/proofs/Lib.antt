@@ -32,9 +32,7 @@ pub mod TrailLemmas
 pub mod TurnLemmas
 pub mod EncodedLemmas
 pub mod LeftOutLemmas
-pub mod LedLemmas
 pub mod TableLemmas
-pub mod LedReading
 pub mod StoredKindLemmas
 pub mod RunLemmas
 pub mod LongerRunLemmas

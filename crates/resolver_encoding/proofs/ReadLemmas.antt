@@ -1,13 +1,13 @@
 -- Solvables that were read stay read; the clauses when everything was read.
-use Rattle.std.proofs.Common.{◌≡◌, ℕ, ◌<◌, ◌≤◌, length, List, [], ◌∷◌, ◌++◌, refl, sym, ap, ◌∙◌, subst, ⊎_elim, inl, inr, arith, Contains}
-use Rattle.std.proofs.Common.{All, Bool, true, get_or}
+use Rattle.std.proofs.Common.{◌≡◌, ◌⊎◌, ℕ, ◌<◌, ◌≤◌, length, List, [], ◌∷◌, ◌++◌, refl, sym, ap, ◌∙◌, subst, ⊎_elim, inl, inr, arith, Contains}
+use Rattle.std.proofs.Common.{All, Bool, true}
 use Rattle.std.specs.Prelude.{Some, slice_get}
 use Rattle.std.specs.Cmp.{IsEquivalence}
 use Rattle.std.specs.List.{IsDistinct}
 use Rattle.std.proofs.lemmas.List.Elements.{All-contains, All-cons, All-nil, All-weaker}
 use Rattle.std.proofs.lemmas.Map.Made.{length-le_from_is_member}
 use Rattle.std.proofs.lemmas.Map.Views.{list_any-from_Contains, Contains-from_any}
-use Rattle.std.proofs.lemmas.Option.{slice_get-get_or, slice_get_within}
+use Rattle.std.proofs.lemmas.Option.{slice_get_within}
 use Rattle.std.proofs.lemmas.Bool.{false≢true}
 use Rattle.resolver_clause_store.specs.Laws.{IsIdentity}
 use Rattle.resolver_clause_store.specs.Lists.{IsWithin}
@@ -26,10 +26,8 @@ use Rattle.resolver_clause_store.specs.declared.Requirement.{Requirement}
 use Rattle.resolver_clause_store.specs.declared.VersionSetId.{VersionSetId}
 use Rattle.resolver_clause_store.specs.Statements.{IsPresent}
 use Rattle.resolver_clause_store.specs.TrueRules.{demands_by}
-use Rattle.resolver_encoding.specs.Atoms.{atom}
 use Rattle.resolver_encoding.specs.Encodings.{AddsKind, IsRequirementKind, AreDemandsRead, AreNeedsRead, HasProperHelper, IsConstraintRead, IsEncoding, IsLeft}
 use Rattle.resolver_encoding.specs.Encodings.{IsUnread, Notes}
-use Rattle.resolver_encoding.specs.Led.{AddsOnly}
 use Rattle.resolver_encoding.specs.Read.{IsForbidden}
 use Rattle.resolver_encoding.specs.ReadState.{Deferred, HasClause, has_direct, has_gate, IsRead, IsReadRequirement}
 use Rattle.resolver_encoding.specs.SoFar.{IsHalfRead}
@@ -39,7 +37,6 @@ use Rattle.resolver_clause_store.specs.Formula.{clause_at}
 use Rattle.resolver_clause_store.proofs.PlaceLemmas.{place_cases}
 use Rattle.resolver_encoding.proofs.EncodingLemmas.{IsForbidden-within, asks_not}
 use Rattle.resolver_encoding.proofs.CodeLemmas.{apart_of_digits}
-use Rattle.resolver_clause_store.proofs.ListLemmas.{Contains-at as place_in}
 use Rattle.resolver_clause_store.proofs.ListLemmas.{Contains-cons_cases as cons_cases, Contains-here as here, Contains-none as none_in, Contains-there as there}
 use Rattle.resolver_encoding.proofs.GroupLemmas.{named_of_number as IsNamed-at}
 
@@ -177,19 +174,20 @@ module _ {N S : Type 0} (u : Universe N S) where
   none_at {X} xs i x e at = let below : i < length xs = slice_get_within xs i x at in let nothing : length xs ≡ 0 = ap length e in omega (arith, below, nothing)
 
   -- the clause of the root alone
-  pub installed : (old new : Notes N S) → IsUnread old → AddsKind u InstallRoot old new → AddsOnly (λ o. o ≡ Root) old new → (root : Demands) →
-      IsEncoding u root new
-  installed old new unread adds only root =
+  pub installed : (old new : Notes N S) (os : List (Origin N S)) (limit v : ℕ) → IsUnread old → (AreDistinct old.origins → AreDistinct os) →
+      (os ≡ old.origins) ⊎ (os ≡ old.origins ++ Root ∷ []) → slice_get os v ≡ Some Root → AddsKind u InstallRoot (record old { origins = os; variable_limit = limit }) new →
+      (root : Demands) → IsEncoding u root new
+  installed old new made limit v unread apart longer here_root adds root =
       let literals = adds.literals in
       let os = new.origins in
       let Right : Notes N S → Type 0 = λ n. IsEncoding u root n in
       let InNoSeen : List S → Type 0 = λ xs. All (λ s. Contains xs s → ⊥) xs in
       let AreApart : List (Origin N S) → Type 0 = λ list. AreDistinct list in
-      let are : new ≡ record old { origins = os; table = literals ∷ []; kinds = InstallRoot ∷ [] } = adds.is ∙
-      (λ i. record old { origins = os; table = unread.no_table i ++ literals ∷ []; kinds = unread.no_kinds i ++ InstallRoot ∷ [] }) in
+      let are : new ≡ record old { origins = os; table = literals ∷ []; kinds = InstallRoot ∷ []; variable_limit = limit } = adds.is ∙
+      (λ i. record old { origins = os; table = unread.no_table i ++ literals ∷ []; kinds = unread.no_kinds i ++ InstallRoot ∷ []; variable_limit = limit }) in
       subst Right (sym are) (record {
         root_first = root_at;
-        distinct = adds.origins.distinct (subst AreApart (sym unread.no_origins) (record { same = λ i k x one other. absurd (none_at [] i x refl one) }));
+        distinct = adds.origins.distinct (apart (subst AreApart (sym unread.no_origins) (record { same = λ i k x one other. absurd (none_at [] i x refl one) })));
         encoded = record {
           count = refl;
           each = λ n kind at.
@@ -233,17 +231,14 @@ module _ {N S : Type 0} (u : Universe N S) where
         sound_deferred_by_name = unread.sound_deferred_by_name;
       })
     where
-      -- variable 0 stands for the root, since no variable stands for anything else
       root_at : slice_get new.origins 0 ≡ Some Root
       root_at =
-          let w = adds.clause.atoms.each_atom (atom Root true) (here (atom Root true) []) in
-          let below : 0 < length new.origins = omega (arith, slice_get_within new.origins w.0.variable Root w.2.origin) in
-          let first = slice_get-get_or new.origins 0 Root below in
-          let is : get_or new.origins 0 Root ≡ Root = ⊎_elim
-          (λ (earlier : Contains old.origins (get_or new.origins 0 Root)). absurd (not_in old.origins (get_or new.origins 0 Root) unread.no_origins earlier))
-          (λ (same : get_or new.origins 0 Root ≡ Root). same)
-          (only.origins.only (get_or new.origins 0 Root) (place_in new.origins 0 (get_or new.origins 0 Root) first)) in
-          first ∙ ap (λ o. Some o) is
+          let Front : List (Origin N S) → Type 0 = λ list. slice_get list 0 ≡ Some Root in
+          adds.origins.keeps.kept 0 Root (⊎_elim
+          (λ (same : made ≡ old.origins). absurd (none_at made v Root (same ∙ unread.no_origins) here_root))
+          (λ (one : made ≡ old.origins ++ Root ∷ []).
+          subst Front (sym (one ∙ ap (λ (list : List (Origin N S)). list ++ Root ∷ []) unread.no_origins)) refl)
+          longer)
 
       not_there : (kind : ClauseKind N S) → (InstallRoot ≡ kind → ⊥) → Contains (InstallRoot ∷ []) kind → ⊥
       not_there kind differ h = ⊎_elim (λ (e : InstallRoot ≡ kind). differ e) (λ (later : Contains [] kind). none_in kind later)

@@ -20,7 +20,6 @@ pub mod Reach
 pub mod SoFar
 pub mod Turns
 pub mod LeftOut
-pub mod Led
 pub mod Kinds
 pub mod Runs
 pub mod LongerRuns

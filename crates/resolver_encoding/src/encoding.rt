@@ -4,9 +4,8 @@ ghost use Rattle.std.specs.Prelude.{◌≡◌, ◌<◌, ◌≤◌, ◌^◌, [], 
 ghost use Rattle.resolver_clause_store.specs.Laws.{IsIdentity};
 ghost use Rattle.resolver_clause_store.specs.Universe.{Universe};
 ghost use Rattle.resolver_clause_store.specs.Variables.{origins_in};
-ghost use Rattle.resolver_encoding.specs.Atoms.{IsMentioned, atoms_of, wanted};
+ghost use Rattle.resolver_encoding.specs.Atoms.{wanted};
 ghost use Rattle.resolver_encoding.specs.Encodings.{AddsKind, IsFull, IsUnread};
-ghost use Rattle.resolver_encoding.specs.Led.{AddsOnly};
 ghost use Rattle.resolver_encoding.specs.Refusals.{IsShortage};
 
 mod candidates;
@@ -90,8 +89,6 @@ impl<N: Copy + Eq + Hash + Drop, S: Copy + Eq + Hash + Drop> Encoding<N, S> {
         ensures room { KeepsRoom self.old self.new }
         ensures added { OnOk result ((u : Universe N S) → choices.now.candidates.items ≡ wanted u kind →
             AddsKind u kind (notes_in self.old) (notes_in self.new)) }
-        ensures adds { (u : Universe N S) → choices.now.candidates.items ≡ wanted u kind →
-            AddsOnly (IsMentioned (atoms_of u kind)) (notes_in self.old) (notes_in self.new) }
         ensures refusal { IfErr result (IsShortage (IsFull (notes_in self.new))) }
     {
         self.table.add(kind, choices)?;
@@ -106,8 +103,6 @@ impl<N: Copy + Eq + Hash + Drop, S: Copy + Eq + Hash + Drop> Encoding<N, S> {
         requires bounded { IsBounded self.old }
         ensures room { KeepsRoom self.old self.new }
         ensures added { OnOk result ((u : Universe N S) → wanted u kind ≡ [] → AddsKind u kind (notes_in self.old) (notes_in self.new)) }
-        ensures adds { (u : Universe N S) → wanted u kind ≡ [] →
-            AddsOnly (IsMentioned (atoms_of u kind)) (notes_in self.old) (notes_in self.new) }
         ensures refusal { IfErr result (IsShortage (IsFull (notes_in self.new))) }
     {
         let none = Choices::none(self.alloc);

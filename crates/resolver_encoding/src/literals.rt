@@ -1,14 +1,12 @@
 //! The literals of a clause, by its kind.
 
-ghost use Rattle.std.specs.Prelude.{◌≡◌, [], ◌∷◌, Contains, IfErr, MatchBool, OnOk, false, map, true};
+ghost use Rattle.std.specs.Prelude.{◌≡◌, [], ◌∷◌, IfErr, MatchBool, OnOk, false, map, true};
 ghost use Rattle.resolver_clause_store.specs.Laws.{IsIdentity};
 ghost use Rattle.resolver_clause_store.specs.Variables.{IsBounded, IsFull as AreFull, limit_in, origins_in};
 ghost use Rattle.resolver_clause_store.specs.declared.Origin.TheVariants.{ConditionHelper, Solvable};
-ghost use Rattle.resolver_clause_store.specs.declared.VersionSetId.{VersionSetId as Id};
 ghost use Rattle.resolver_clause_store.specs.declared.By.TheVariants.{Solvable as BySolvable};
-ghost use Rattle.resolver_encoding.specs.Atoms.{IsMentioned, atom, first_atom, front, helpers_of, origin_by};
+ghost use Rattle.resolver_encoding.specs.Atoms.{atom, first_atom, front, helpers_of, origin_by};
 ghost use Rattle.resolver_encoding.specs.Encodings.{Adds, Grows};
-ghost use Rattle.resolver_encoding.specs.Led.{AddsSuch};
 ghost use Rattle.resolver_encoding.specs.Refusals.{IsShortage};
 ghost use Rattle.resolver_encoding.specs.Tables.{IsBeside, IsSecond};
 
@@ -147,7 +145,6 @@ fn push_literal<N: Copy + Eq + Hash + Drop, S: Copy + Eq + Hash + Drop>(
     ensures limit { limit_in variables.new ≡ limit_in variables.old }
     ensures grows { Grows (origins_in variables.old) (origins_in variables.new) }
     ensures added { OnOk result (Adds (origins_in variables.new) literals.old.items literals.new.items (atom origin positive ∷ [])) }
-    ensures adds { AddsSuch (λ o. o ≡ origin) (origins_in variables.old) (origins_in variables.new) }
     ensures refusal { IfErr result (IsShortage (AreFull variables.new)) }
 {
     let variable = variables.intern_near(origin, guess)?;
@@ -170,7 +167,6 @@ pub(crate) fn push_front<N: Copy + Eq + Hash + Drop, S: Copy + Eq + Hash + Drop>
     ensures limit { limit_in variables.new ≡ limit_in variables.old }
     ensures grows { Grows (origins_in variables.old) (origins_in variables.new) }
     ensures added { OnOk result (Adds (origins_in variables.new) literals.old.items literals.new.items (front first second)) }
-    ensures adds { AddsSuch (IsMentioned (front first second)) (origins_in variables.old) (origins_in variables.new) }
     ensures refusal { IfErr result (IsShortage (AreFull variables.new)) }
 {
     push_literal(variables, literals, first.0, first.1, guesses.0)?;
@@ -197,7 +193,6 @@ pub(crate) fn push_helpers<N: Copy + Eq + Hash + Drop, S: Copy + Eq + Hash + Dro
     ensures grows { Grows (origins_in variables.old) (origins_in variables.new) }
     ensures added { OnOk result (Adds (origins_in variables.new) literals.old.items literals.new.items
         (map (λ v. atom (ConditionHelper v) false) disjunct.now)) }
-    ensures adds { AddsSuch (λ o. (v : Id) × Contains disjunct.now v × (o ≡ ConditionHelper v)) (origins_in variables.old) (origins_in variables.new) }
     ensures refusal { IfErr result (IsShortage (AreFull variables.new)) }
 {
     for version_set in disjunct {
@@ -239,7 +234,6 @@ pub(crate) fn push_candidates<N: Copy + Eq + Hash + Drop, S: Copy + Eq + Hash + 
     ensures limit { limit_in variables.new ≡ limit_in variables.old }
     ensures grows { Grows (origins_in variables.old) (origins_in variables.new) }
     ensures added { OnOk result (Adds (origins_in variables.new) literals.old.items literals.new.items (map (λ s. atom (Solvable s) true) candidates.now)) }
-    ensures adds { AddsSuch (λ o. (s : S) × Contains candidates.now s × (o ≡ Solvable s)) (origins_in variables.old) (origins_in variables.new) }
     ensures refusal { IfErr result (IsShortage (AreFull variables.new)) }
 {
     for candidate in candidates {

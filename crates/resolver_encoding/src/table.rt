@@ -4,9 +4,8 @@ ghost use Rattle.std.specs.Prelude.{◌≡◌, ◌<◌, ◌≤◌, ◌^◌, ◌�
 ghost use Rattle.resolver_clause_store.specs.Laws.{IsIdentity};
 ghost use Rattle.resolver_clause_store.specs.Universe.{Universe};
 ghost use Rattle.resolver_clause_store.specs.Variables.{IsBounded, IsFull};
-ghost use Rattle.resolver_encoding.specs.Atoms.{IsMentioned, atoms_of, wanted};
+ghost use Rattle.resolver_encoding.specs.Atoms.{wanted};
 ghost use Rattle.resolver_encoding.specs.Encodings.{Grows, numbers_with};
-ghost use Rattle.resolver_encoding.specs.Led.{AddsSuch};
 ghost use Rattle.resolver_encoding.specs.Refusals.{IsShortage};
 ghost use Rattle.resolver_encoding.specs.Tables.{HasAdded, IsTableFull, with_number};
 ghost use Rattle.resolver_encoding.specs.Values.{IsClauseOf};
@@ -110,8 +109,6 @@ impl<N: Copy + Eq + Hash + Drop, S: Copy + Eq + Hash + Drop> ClauseTable<N, S> {
         ensures unchanged { IfErr result (λ e. (table_in self.new ≡ table_in self.old) ⊎ ((e ≡ Exhausted.Ids) × IsFull self.new.variables)) }
         ensures variables { (table_in self.new).variable_limit ≡ (table_in self.old).variable_limit }
         ensures clauses { (table_in self.new).clause_limit ≡ (table_in self.old).clause_limit }
-        ensures adds { (u : Universe N S) → choices.now.candidates.items ≡ wanted u kind →
-            AddsSuch (IsMentioned (atoms_of u kind)) (table_in self.old).origins (table_in self.new).origins }
         ensures refusal { IfErr result (IsShortage (IsTableFull (table_in self.new))) }
     {
         if self.kinds.len() == self.clause_limit {
@@ -145,8 +142,6 @@ impl<N: Copy + Eq + Hash + Drop, S: Copy + Eq + Hash + Drop> ClauseTable<N, S> {
         ensures unchanged { OnErr result (table_in self.new ≡ record (table_in self.old) { origins = (table_in self.new).origins }) }
         ensures variables { (table_in self.new).variable_limit ≡ (table_in self.old).variable_limit }
         ensures clauses { (table_in self.new).clause_limit ≡ (table_in self.old).clause_limit }
-        ensures adds { (u : Universe N S) → choices.now.candidates.items ≡ wanted u kind →
-            AddsSuch (IsMentioned (atoms_of u kind)) (table_in self.old).origins (table_in self.new).origins }
         ensures refusal { IfErr result (IsShortage (IsFull self.new.variables)) }
     {
         let mut literals = replace(&mut self.spare, Vec::new(self.alloc));
@@ -174,8 +169,6 @@ impl<N: Copy + Eq + Hash + Drop, S: Copy + Eq + Hash + Drop> ClauseTable<N, S> {
         ensures table { table_in self.new ≡ record (table_in self.old) { origins = (table_in self.new).origins } }
         ensures clause { OnOk result ((u : Universe N S) → choices.now.candidates.items ≡ wanted u kind.now →
             IsClauseOf u (table_in self.new).origins literals.new.items kind.now) }
-        ensures adds { (u : Universe N S) → choices.now.candidates.items ≡ wanted u kind.now →
-            AddsSuch (IsMentioned (atoms_of u kind.now)) (table_in self.old).origins (table_in self.new).origins }
         ensures refusal { IfErr result (IsShortage (IsFull self.new.variables)) }
     {
         let second = second_of(kind);

@@ -31,4 +31,3 @@ pub mod ImpliedLemmas
 pub mod MessageExamples
 pub mod PendingLemmas
 pub mod ChoiceLemmas
-pub mod CountLemmas

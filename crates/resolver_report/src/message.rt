@@ -1,6 +1,6 @@
 //! The message of a conflict graph.
 
-ghost use Rattle.std.specs.Prelude.{◌≡◌, ◌++◌, ◌∷◌, ◌<◌, ◌≤◌, [], true, Some, IfOk, IfErr, IfNone, IfSome, IsTrue, OnOk, codes, filter, length, string_bytes};
+ghost use Rattle.std.specs.Prelude.{◌≡◌, ◌++◌, ◌∷◌, [], true, Some, IfOk, IfErr, OnOk, codes, filter, string_bytes};
 ghost use Rattle.resolver_report.specs.ConflictGraphs.{shape_of};
 ghost use Rattle.resolver_report.specs.MessageParts.{message_in};
 ghost use Rattle.resolver_report.specs.Messages.{conflict_part, conflict_text, message, missing_part, tree};
@@ -14,7 +14,7 @@ use crate::marks::{is_marked, missing};
 use crate::outline::node_stories;
 use crate::runs::outgoing;
 use crate::texts::write_conflicts;
-use crate::tree::{Outline, count_edges, reserve_edges, tell_edges, write_end};
+use crate::tree::{Outline, reserve_edges, tell_edges, write_end};
 use itertools::Itertools;
 use resolver_clause_store::{Exhausted, Interner};
 use std::alloc::Global;
@@ -199,46 +199,6 @@ fn message_text<I: Interner>(
     Ok(text)
 }
 
-/// Counts the bytes of the two trees of a message. Counting stops just above the limit.
-fn count_trees<I: Interner>(
-    alloc: Global,
-    parts: &MessageParts<'_, I>,
-    limit: usize,
-) -> Result<usize, Exhausted>
-    requires { IsOutline I.universe parts.now.outline I.SolvableId.eq }
-    ensures counted { IfOk result (λ count. count ≤ length (message_in I.universe parts.now)) }
-    ensures memory { IfErr result (λ e. e ≡ Exhausted.Memory) }
-{
-    let lost = count_edges(alloc, &parts.outline, &parts.lost, false, limit)?;
-    let left = count_edges(alloc, &parts.outline, &parts.left, true, limit)?;
-    Ok(lost.saturating_add(left))
-}
-
-/// The text of a message, or `None` if it has more than `limit` bytes.
-fn message_text_within<I: Interner>(
-    alloc: Global,
-    parts: &MessageParts<'_, I>,
-    limit: usize,
-) -> Result<Option<String>, Exhausted>
-    requires { IsOutline I.universe parts.now.outline I.SolvableId.eq }
-    ensures value { IfOk result (λ answer. IfSome answer (λ text. string_bytes text ≡ message_in I.universe parts.now)) }
-    ensures within { IfOk result (λ answer. IfSome answer (λ text. length (string_bytes text) ≤ limit)) }
-    ensures longer { IfOk result (λ answer. IfNone answer (limit < length (message_in I.universe parts.now))) }
-    ensures memory { IfErr result (λ e. e ≡ Exhausted.Memory) }
-{
-    let count = count_trees(alloc, parts, limit)?;
-    if count > limit {
-        return Ok(None);
-    }
-    let mut text = String::new(alloc);
-    text.reserve(count.saturating_add(HEADING_LENGTH))?;
-    write_message(parts, &mut text)?;
-    if text.len() > limit {
-        return Ok(None);
-    }
-    Ok(Some(text))
-}
-
 /// The message of a conflict's graph: a tree of lines that shows which packages are missing or incompatible.
 ///
 /// Its `Display` makes the whole text before it writes the first byte. An error comes only from the formatter, or where
@@ -270,22 +230,6 @@ impl<'i, I: Interner> DisplayUnsat<'i, I> {
     {
         let parts = parts_of(self.interner, &self.graph)?;
         let text = message_text(self.graph.graph.allocator(), &parts);
-        drop(parts);
-        Ok(text?)
-    }
-
-    /// The text of the message if it has at most `limit` bytes, else `None`.
-    ///
-    /// The error is [`Exhausted::Memory`] alone. The bytes are counted first, and counting stops just above the limit,
-    /// so a message that is much longer takes neither the memory nor the time to write it.
-    pub fn text_within(&self, limit: usize) -> Result<Option<String>, Exhausted>
-        ensures value { IfOk result (λ answer. IfSome answer (λ text. string_bytes text ≡ displayed I.universe self.now)) }
-        ensures within { IfOk result (λ answer. IfSome answer (λ text. length (string_bytes text) ≤ limit)) }
-        ensures longer { IfOk result (λ answer. IfNone answer (limit < length (displayed I.universe self.now))) }
-        ensures memory { IfErr result (λ e. e ≡ Exhausted.Memory) }
-    {
-        let parts = parts_of(self.interner, &self.graph)?;
-        let text = message_text_within(self.graph.graph.allocator(), &parts, limit);
         drop(parts);
         Ok(text?)
     }

@@ -1,13 +1,13 @@
 //! The tree of a message.
 
-ghost use Rattle.std.specs.Prelude.{◌≡◌, ◌∷◌, ◌++◌, ◌+◌, ◌<◌, ◌≤◌, ◌==◌, [], false, true, length, map};
-ghost use Rattle.std.specs.Prelude.{IfErr, IfOk, IfSome, IsFalse, IsTrue, OnOk, IsSome, MatchOption};
+ghost use Rattle.std.specs.Prelude.{◌≡◌, ◌∷◌, ◌++◌, ◌<◌, ◌==◌, [], false, true, length, map};
+ghost use Rattle.std.specs.Prelude.{IfErr, IfOk, IsFalse, IsTrue, OnOk, IsSome, MatchOption};
 ghost use Rattle.std.specs.Prelude.{slice_get, string_bytes};
 ghost use Rattle.resolver_report.specs.Forests.{indent_from, text_of};
 ghost use Rattle.resolver_report.specs.Indents.{levels_in};
 ghost use Rattle.resolver_report.specs.Messages.{excluded, constraint_line as constraint_line_in, tree, is_quiet, is_reported as is_reported_in, lines_of};
 ghost use Rattle.resolver_report.specs.Messages.{reason_text, run_text, requirement_text, unmarked, with_group};
-ghost use Rattle.resolver_report.specs.PendingTexts.{HasLevels, IsTellStep, below_run as below_run_in, pending_text, pending_view, pending_work};
+ghost use Rattle.resolver_report.specs.PendingTexts.{HasLevels, IsTellStep, below_run as below_run_in, pending_text, pending_view};
 ghost use Rattle.resolver_report.specs.Outlines.{run_told_view};
 ghost use Rattle.resolver_report.specs.Tellings.{IsOutline, IsToldNode, graph_in, keys_in, marks_in, is_requires, tree_in, verdict_rest, version_text_in};
 ghost use Rattle.resolver_report.specs.Shapes.{solvable_at as solvable_at_place};
@@ -23,7 +23,6 @@ use crate::simplify::{MergedConflictNode, solvable_at};
 use crate::texts::{write_reason, write_run_text, write_version, write_version_set};
 use crate::verdict::Verdict;
 use resolver_clause_store::{Exhausted, Interner, VersionSetId};
-use std::alloc::Global;
 use std::collections::HashMap;
 use std::rc::Rc;
 
@@ -550,97 +549,4 @@ pub fn tell_edges<I: Interner>(
     let runs = outlines_of(alloc, &outline.findings, edges)?;
     tell_tree(outline, &runs, top_level_indent, out)?;
     Ok(())
-}
-
-/// Tells the next candidate or run into an empty line, counts its bytes, and empties the line again. `None` if nothing
-/// was left to do.
-fn count_next<'s, I: Interner>(
-    outline: &'s Outline<'_, I>,
-    pending: &mut Pending<'s>,
-    line: &mut String,
-) -> Result<Option<usize>, Exhausted>
-    requires outline { IsOutline I.universe outline.now I.SolvableId.eq }
-    requires levels { HasLevels pending.old }
-    requires empty { string_bytes line.old ≡ [] }
-    ensures empty { IfOk result (λ next. IfSome next (λ _. string_bytes line.new ≡ [])) }
-    ensures levels { IfOk result (λ next. IfSome next (λ _. HasLevels pending.new)) }
-    ensures counted { IfOk result (λ next. IfSome next (λ count.
-        count + length (pending_text I.universe outline.now (pending_view pending.new)) ≡
-        length (pending_text I.universe outline.now (pending_view pending.old)))) }
-    ensures less { IfOk result (λ next. IfSome next (λ _.
-        pending_work I.universe outline.now (pending_view pending.new) < pending_work I.universe outline.now (pending_view pending.old))) }
-    ensures memory { IfErr result (λ e. e ≡ Exhausted.Memory) }
-{
-    let more = tell_next(outline, pending, line)?;
-    if !more {
-        return Ok(None);
-    }
-    let count = line.len();
-    line.clear();
-    Ok(Some(count))
-}
-
-/// Counts the bytes of all that is still to be told. Counting may stop once it is above the limit. No text is made.
-fn count_pending<'s, I: Interner>(
-    outline: &'s Outline<'_, I>,
-    pending: &mut Pending<'s>,
-    line: &mut String,
-    limit: usize,
-) -> Result<usize, Exhausted>
-    requires outline { IsOutline I.universe outline.now I.SolvableId.eq }
-    requires levels { HasLevels pending.old }
-    requires empty { string_bytes line.old ≡ [] }
-    ensures counted { IfOk result (λ count. count ≤ length (pending_text I.universe outline.now (pending_view pending.old))) }
-    ensures memory { IfErr result (λ e. e ≡ Exhausted.Memory) }
-{
-    let mut count: usize = 0;
-    'steps: while let Some(more) = count_next(outline, pending, line)? {
-        count = count.saturating_add(more);
-        if count > limit {
-            return Ok(count);
-        }
-    }
-    Ok(count)
-}
-
-/// Counts the bytes of the tree of these outlines. Counting may stop once it is above the limit.
-fn count_tree<'s, I: Interner>(
-    alloc: Global,
-    outline: &'s Outline<'_, I>,
-    runs: &'s [RunOutline],
-    top_level_indent: bool,
-    limit: usize,
-) -> Result<usize, Exhausted>
-    requires { IsOutline I.universe outline.now I.SolvableId.eq }
-    ensures counted { IfOk result (λ count. count ≤
-        length (text_of top_level_indent [] (tree_in I.universe outline.now (length outline.now.findings.graph.now.graph.nodes)
-        (unmarked outline.now.findings.graph.now.graph) true (map run_told_view runs.now) (unmarked outline.now.findings.graph.now.graph)).value)) }
-    ensures memory { IfErr result (λ e. e ≡ Exhausted.Memory) }
-{
-    let nodes = outline.findings.graph.graph.nodes().len();
-    let mut pending = Pending::whole(alloc, runs, top_level_indent, nodes)?;
-    let mut line = String::new(alloc);
-    let count = count_pending(outline, &mut pending, &mut line, limit)?;
-    drop(pending);
-    Ok(count)
-}
-
-/// Counts the bytes of the tree of some of the root's edges, newest first. Counting may stop once it is above the
-/// limit.
-pub fn count_edges<I: Interner>(
-    alloc: Global,
-    outline: &Outline<'_, I>,
-    edges: &[Edge<I::SolvableId>],
-    top_level_indent: bool,
-    limit: usize,
-) -> Result<usize, Exhausted>
-    requires { IsOutline I.universe outline.now I.SolvableId.eq }
-    ensures counted { IfOk result (λ count. count ≤
-        length (text_of top_level_indent [] (tree (I.universe outline.now.interner.now) (graph_in I.universe outline.now) (keys_in I.universe outline.now)
-        (marks_in I.universe outline.now) edges.now))) }
-    ensures memory { IfErr result (λ e. e ≡ Exhausted.Memory) }
-{
-    let runs = outlines_of(alloc, &outline.findings, edges)?;
-    let count = count_tree(alloc, outline, &runs, top_level_indent, limit)?;
-    Ok(count)
 }

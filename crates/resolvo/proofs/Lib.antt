@@ -26,12 +26,11 @@ pub mod RefusingLemmas
 pub mod StuckLemmas
 pub mod SoftLemmas
 pub mod SoftTurnLemmas
-pub mod LeadingLemmas
 pub mod OutcomeLemmas
 pub mod ReadInTurnLemmas
 pub mod SameLemmas
 pub mod MinimalLemmas
-pub mod RefinedLemmas
+pub mod TrimmedLemmas
 pub mod LineLemmas
 pub mod CompleteLemmas
 pub mod SoundLemmas

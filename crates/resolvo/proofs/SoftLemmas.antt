@@ -30,7 +30,6 @@ use Rattle.resolver_clause_store.proofs.SlotLemmas.{slot-within}
 use Rattle.resolver_clause_store.proofs.TrailLemmas.{gains-cases, keeps-gains}
 use Rattle.resolver_encoding.specs.Atoms.{Atom, atom}
 use Rattle.resolver_encoding.specs.Encodings.{Extends, Notes}
-use Rattle.resolver_encoding.specs.Led.{AreLed}
 use Rattle.resolver_encoding.specs.LeftOut.{IsLeftOut}
 use Rattle.resolver_encoding.specs.Notes.{IsBounded, notes_in}
 use Rattle.resolver_encoding.specs.Reach.{AreNear}
@@ -47,7 +46,7 @@ use Rattle.resolver_encoding.proofs.LeftOutLemmas.{left_out_more, left_out_nowhe
 use Rattle.resolver_encoding.proofs.TrailLemmas.{before_extends, follows_still, none_at, same_before, same_origin}
 use Rattle.resolvo.specs.ClauseSearches.{IsConsistent, IsRootTurn, KeepsLoaded, KeepsBookmark, KeepsTurn, base_of, held_of, kept_of, trail_of}
 use Rattle.resolvo.specs.RoundStates.{AreRounds, GoesOn, HasAssumed, HasBookmark, HasTurned, IsAnswering, IsFollowing, IsBetween, IsRefusing, IsSearchOf}
-use Rattle.resolvo.specs.RoundStates.{IsStanding, IsStill, IsTurned, IsUnanswered, LeadsOn, StaysLed, is_accepted, is_refused, was_chosen, chosen_of}
+use Rattle.resolvo.specs.RoundStates.{IsStanding, IsStill, IsTurned, IsUnanswered, is_accepted, is_refused, was_chosen, chosen_of}
 use Rattle.resolvo.specs.RoundStates.{notes_of}
 use Rattle.resolvo.specs.declared.clause_search.ClauseSearch.{ClauseSearch}
 use Rattle.resolvo.specs.declared.rounds.Rounds.{Rounds}
@@ -452,14 +451,6 @@ module _ {N S : Type 0} where
     within_now : IsWithin taken_now seeds
     within_now t h = ⊎_elim (λ was. b.within t was) (λ e. let Has : S → Type 0 = λ x. Contains seeds x in subst Has e seed) (Contains-push_cases taken s t h)
 
-    -- the problem leads to all origins when the turn begins, and while it goes on
-    pub led_begun : AreLed u root seeds packages (notes_of old) → AreLed u root seeds packages (notes_in encoding)
-    led_begun led = let Led : Notes N S → Type 0 = λ n. AreLed u root seeds packages n in subst Led (sym only) led
-
-    pub led_tried : (rest : Rounds N S) → LeadsOn u begun rest → AreLed u root seeds packages (notes_of old) → AreLed u root seeds packages (notes_of rest)
-    led_tried rest leads led =
-        leads root seeds taken_now refused packages (stays root (chosen_of old) b.read) within_now begun_assumed begun_near (led_begun led)
-
     module _ (rest : Rounds N S) (goes : GoesOn u begun rest) where
       abbrev t2 : Trail
       t2 = trail_of rest.search
@@ -488,11 +479,6 @@ module _ {N S : Type 0} where
 
       rest_near : AreNear u root seeds packages (notes_of rest)
       rest_near = goes.near root seeds taken_now refused packages (stays root (chosen_of old) b.read) within_now begun_assumed begun_near
-
-      -- the problem leads to all origins after the turn is undone
-      pub led_refused : (after : Rounds N S) → LeadsOn u begun rest → StaysLed u rest after → AreLed u root seeds packages (notes_of old) →
-          AreLed u root seeds packages (notes_of after)
-      led_refused after leads stays_led led = stays_led root seeds packages rest_near (led_tried rest leads led)
 
       asked_rest : IsWithin (notes_of old).asked (notes_of rest).asked
       asked_rest n h = let Has : List N → Type 0 = λ list. Contains list n in goes.asked n (subst Has (sym same_asked) h)

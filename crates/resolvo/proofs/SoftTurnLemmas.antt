@@ -1,6 +1,7 @@
 -- The run over the soft requirements goes on with one more turn.
 use Rattle.std.proofs.Common.{◌≡◌, ◌⊎◌, Bool, true, false, List, [], ◌∷◌, ◌++◌, Contains, Option, Some, None, refl, sym, ap, ◌∙◌}
 use Rattle.std.proofs.Common.{subst, ⊎_elim}
+use Rattle.std.specs.Iterator.{Drains, Yields}
 use Rattle.std.specs.List.{filter, flat_map, list_any}
 use Rattle.std.specs.Prelude.{cond, not}
 use Rattle.std.proofs.lemmas.Bool.{cases_Bool, true≢false}
@@ -23,7 +24,12 @@ use Rattle.resolvo.specs.RoundStates.{notes_of, one_fits, was_chosen}
 use Rattle.resolvo.specs.declared.rounds.Rounds.{Rounds}
 use Rattle.resolver_clause_store.proofs.ListLemmas.{Contains-cons_cases as cons_cases, Contains-here as here, Contains-none as none_in, Contains-there as there}
 use Rattle.resolvo.proofs.SoftLemmas.{asked_for}
-use Rattle.resolver_encoding.proofs.LedLemmas.{one_within}
+
+-- the element is all of the list
+one_within : {X : Type 0} (x : X) (xs : List X) → Contains xs x → IsWithin (x ∷ []) xs
+one_within {X} x xs inside y h =
+    let Has : X → Type 0 = λ z. Contains xs z in
+    ⊎_elim (λ (is : x ≡ y). subst Has is inside) (λ (none : Contains [] y). absurd (none_in y none)) (cons_cases x [] y h)
 
 -- a gathered list with the elements of one more part
 gathered : {X A : Type 0} (f : X → List A) (xs : List X) (x : X) → flat_map f (xs ++ x ∷ []) ≡ flat_map f xs ++ (f x ++ [])
@@ -258,3 +264,11 @@ module _ {N S : Type 0} (u : Universe N S) where
               standing = t.standing;
               asked = λ n k. t.asked n (h.asked n k);
             }
+
+-- all items that an iterator has given since a loop began with it
+pub gives_all : {I X : Type 0} (gives : I → Option X → I → Type 0) (it begun mid : I) → begun ≡ it → (items : List X) → Yields gives begun items mid →
+    (r : Option X) (rest : I) → r ≡ None → gives mid r rest → Drains gives it items
+gives_all {I} {X} gives it begun mid same items yields r rest is step =
+    let From : I → Type 0 = λ i. Yields gives i items mid in
+    let Gives : Option X → Type 0 = λ o. gives mid o rest in
+    (rest, (mid, subst From same yields, subst Gives is step))

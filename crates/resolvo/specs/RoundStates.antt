@@ -18,7 +18,6 @@ use Rattle.resolver_clause_store.specs.declared.Reason.TheVariants.{Assumed}
 use Rattle.resolver_clause_store.specs.declared.Slot.{Slot}
 use Rattle.resolver_clause_store.specs.declared.Trail.{Trail}
 use Rattle.resolver_encoding.specs.Encodings.{Extends, IsFull, IsUnread, KeepsLimits, Notes}
-use Rattle.resolver_encoding.specs.Led.{AreLed}
 use Rattle.resolver_encoding.specs.LeftOut.{IsLeftOut}
 use Rattle.resolver_encoding.specs.Notes.{IsBounded, notes_in}
 use Rattle.resolver_encoding.specs.SoFar.{IsReading, IsReadSoFar, left_count}
@@ -140,13 +139,6 @@ module _ {N S : Type 0} where
       IsWithin taken seeds → AreAssumed (notes_of old).origins taken refused (trail_of old.search) →
       AreNear u root seeds packages (notes_of old) → AreNear u root seeds packages (notes_of new)
 
-  -- If only the taken and the refused solvables are assumed, everything registered, read and asked is near the seeds,
-  -- and the problem led to all origins before, then it leads to all origins now.
-  abbrev pub LeadsOn : Universe N S → Rounds N S → Rounds N S → Type 0
-  LeadsOn u old new = (root : Demands) (seeds taken refused : List S) (packages : List N) → IsReadSoFar u root (chosen_of old) (notes_of old) →
-      IsWithin taken seeds → AreAssumed (notes_of old).origins taken refused (trail_of old.search) →
-      AreNear u root seeds packages (notes_of old) → AreLed u root seeds packages (notes_of old) → AreLed u root seeds packages (notes_of new)
-
   -- a later state of the same turn
   pub record GoesOn (u : Universe N S) (old new : Rounds N S) : Type 0 where
     pub read : KeepsRead u old new
@@ -176,22 +168,6 @@ module _ {N S : Type 0} where
     pub exempt : IsWithin (notes_of r).exempt taken
     pub near : AreNear u root seeds packages (notes_of r)
 
-  -- If everything registered, read and asked was near, and the problem led to all origins before, then it leads to all
-  -- origins now.
-  abbrev pub StaysLed : Universe N S → Rounds N S → Rounds N S → Type 0
-  StaysLed u old new = (root : Demands) (seeds : List S) (packages : List N) → AreNear u root seeds packages (notes_of old) →
-      AreLed u root seeds packages (notes_of old) → AreLed u root seeds packages (notes_of new)
-
-  -- the same, if the solvables had their turns and are among the seeds
-  abbrev pub LeadsTurns : Universe N S → List S → Rounds N S → Rounds N S → Type 0
-  LeadsTurns u solvables old new = (root : Demands) (taken refused seeds : List S) (packages : List N) → IsWithin solvables seeds →
-      IsStanding u root taken refused seeds packages old → AreLed u root seeds packages (notes_of old) → AreLed u root seeds packages (notes_of new)
-
-  -- the same, if the package was asked and is among the packages
-  abbrev pub LeadsAsked : Universe N S → N → Rounds N S → Rounds N S → Type 0
-  LeadsAsked u n old new = (root : Demands) (taken refused seeds : List S) (packages : List N) → Contains packages n →
-      IsStanding u root taken refused seeds packages old → AreLed u root seeds packages (notes_of old) → AreLed u root seeds packages (notes_of new)
-
   -- A solvable had its turn: it was chosen before, it is accepted, or it is refused.
   pub record HasTurned (u : Universe N S) (root : Demands) (taken refused seeds : List S) (packages : List N) (s : S) (old new : Rounds N S)
       (is_chosen : Bool) : Type 0 where
@@ -219,16 +195,6 @@ module _ {N S : Type 0} where
     pub refused : List S
     pub run : SoftRun u root first done taken (chosen_of r) (notes_of r).exempt (notes_of r).asked
     pub standing : IsStanding u root taken refused (flat_map (options u) done) (flat_map (own_packages u) done) r
-
-  -- the problem, with these soft requirements, leads to all origins that are there
-  pub record IsLedBy (u : Universe N S) (root : Demands) (soft : List (SoftRequirement S)) (r : Rounds N S) : Type 0 where
-    pub all : AreLed u root (flat_map (options u) soft) (flat_map (own_packages u) soft) (notes_of r)
-
-  -- the turn of one more soft requirement has begun, and if the problem led to all origins before, it leads to all
-  -- origins now
-  abbrev pub LeadsOver : Universe N S → SoftRequirement S → Rounds N S → Rounds N S → Type 0
-  LeadsOver u requirement old new = (root : Demands) (done : List (SoftRequirement S)) → IsBetween u root done old → IsLedBy u root done old →
-      IsLedBy u root (done ++ requirement ∷ []) new
 
   -- The turn that began with this variable is undone, and the variable is assumed to be false. As many solvables are exempt as before the turn.
   pub record IsRefusing (u : Universe N S) (variable count : ℕ) (old new : Rounds N S) : Type 0 where

@@ -1,12 +1,11 @@
 -- The view that callers have of a solver.
-use Rattle.std.specs.Prelude.{◌≡◌, ◌+◌, ◌≤◌, ◌^◌, ◌⊎◌, ℕ, List, length}
-use Rattle.resolver_clause_store.specs.Universe.{Universe, Demands}
+use Rattle.std.specs.Prelude.{◌≡◌, ◌+◌, ◌-◌, ◌≤◌, ◌^◌, ◌⊎◌, ℕ, List, length, min}
+use Rattle.resolver_clause_store.specs.Universe.{Universe}
 use Rattle.resolver_clause_store.specs.Caches.{IsTrueCache}
-use Rattle.resolver_clause_store.specs.declared.SoftRequirement.{SoftRequirement}
+use Rattle.resolver_clause_store.specs.Variables.{AreDistinct}
 use Rattle.resolver_encoding.specs.SoFar.{left_count}
 use Rattle.resolvo.specs.ClauseSearches.{clause_count_of, learnt_count_of}
-use Rattle.resolvo.specs.Refusals.{AreUsedUp}
-use Rattle.resolvo.specs.RoundStates.{HasAllClauses, notes_of, search_of}
+use Rattle.resolvo.specs.RoundStates.{notes_of, search_of}
 use Rattle.resolvo.specs.declared.rounds.Rounds.{Rounds}
 use Rattle.resolvo.specs.declared.solver.Solver.{Solver}
 
@@ -14,16 +13,17 @@ module _ {D C N S : Type 0} where
   abbrev pub provider_in : Solver D C N S → D
   provider_in s = s.provider
 
-  -- the number of clauses, and that of learnt clauses; the clauses include the learnt ones
+  -- the state in which the last search ended
+  abbrev pub rounds_in : Solver D C N S → Rounds N S
+  rounds_in s = s.rounds
+
+  -- the number of its clauses, with the learnt ones, as far as it fits its type
   abbrev pub clause_count_in : Solver D C N S → ℕ
-  clause_count_in s = s.clause_count
+  clause_count_in s = min (length (notes_of s.rounds).kinds + learnt_count_of (search_of s.rounds)) (2 ^ 64 - 1)
 
-  abbrev pub learnt_count_in : Solver D C N S → ℕ
-  learnt_count_in s = s.learnt_count
-
-  -- the number of deferred disjuncts
+  -- the number of its deferred disjuncts
   abbrev pub deferred_count_in : Solver D C N S → ℕ
-  deferred_count_in s = s.deferred_count
+  deferred_count_in s = left_count (notes_of s.rounds)
 
   -- the exempt soft requirements of the last answer
   abbrev pub exempt_in : Solver D C N S → List S
@@ -34,7 +34,7 @@ module _ {D C N S : Type 0} where
     pub add_is : s.activity.add ≡ add
     pub decay_is : s.activity.decay ≡ decay
 
-  -- the limit of each count
+  -- the limits of variables, clauses and learnt clauses
   pub record HasLimits (limit : ℕ) (s : Solver D C N S) : Type 0 where
     pub variables : s.variable_limit ≡ limit
     pub clauses : s.clause_limit ≡ limit
@@ -50,36 +50,13 @@ module _ {D C N S : Type 0} where
   abbrev pub KeepsActivity : Solver D C N S → Solver D C N S → Type 0
   KeepsActivity old new = new.activity ≡ old.activity
 
-  -- the counts are the same
-  pub record KeepsCounts (old new : Solver D C N S) : Type 0 where
-    pub variables : new.variable_count ≡ old.variable_count
-    pub clauses : new.clause_count ≡ old.clause_count
-    pub learnt : new.learnt_count ≡ old.learnt_count
-    pub deferred : new.deferred_count ≡ old.deferred_count
-
-  -- only the counts change
-  pub record KeepsAllButCounts (old new : Solver D C N S) : Type 0 where
-    pub provider : new.provider ≡ old.provider
-    pub cache : new.cache ≡ old.cache
-    pub exempt : new.exempt ≡ old.exempt
-    pub limits : KeepsLimits old new
-    pub activity : KeepsActivity old new
-
-  -- the counts are those of the rounds
-  pub record HasCounted (r : Rounds N S) (s : Solver D C N S) : Type 0 where
-    pub variables : s.variable_count ≡ length (notes_of r).origins
-    pub read : length (notes_of r).kinds ≤ s.clause_count
-    pub searched : clause_count_of (search_of r) ≤ s.clause_count
-    pub all : HasAllClauses r → s.clause_count ≡ length (notes_of r).kinds + s.learnt_count
-    pub learnt : s.learnt_count ≡ learnt_count_of (search_of r)
-    pub deferred : s.deferred_count ≡ left_count (notes_of r)
-
-  -- One of the counts is at its limit. For the count of variables, the problem, with the soft requirements whose turns
-  -- have begun, leads to as many things as the limit allows variables.
-  abbrev pub IsAtLimit : Universe N S → Demands → (List (SoftRequirement S) → Type 0) → Solver D C N S → Type 0
-  IsAtLimit u root Begun s =
-      ((s.variable_count ≡ s.variable_limit) × ((soft : List (SoftRequirement S)) × Begun soft × AreUsedUp u root soft s.variable_limit))
-      ⊎ ((s.clause_limit ≤ s.clause_count) ⊎ (s.learnt_limit ≤ s.learnt_count))
+  -- In the state of the last search there are as many variables as the limit, no two of them alike, or as many clauses,
+  -- or as many learnt clauses.
+  abbrev pub IsAtLimit : Solver D C N S → Type 0
+  IsAtLimit s =
+      ((length (notes_of s.rounds).origins ≡ s.variable_limit) × AreDistinct (notes_of s.rounds).origins)
+      ⊎ ((length (notes_of s.rounds).kinds ≡ s.clause_limit)
+      ⊎ ((s.clause_limit ≤ clause_count_of (search_of s.rounds)) ⊎ (s.learnt_limit ≤ learnt_count_of (search_of s.rounds))))
 
   -- the cached answers of the provider are true, and the number of each variable fits its type
   pub record IsSound (u : Universe N S) (s : Solver D C N S) : Type 0 where

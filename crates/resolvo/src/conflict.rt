@@ -15,7 +15,7 @@ ghost use Rattle.resolvo.specs.Explanations.{Explains};
 ghost use Rattle.resolvo.specs.Minimal.{CopiesLeft, CopiesPart};
 ghost use Rattle.resolvo.specs.Solvers.{provider_in};
 
-use crate::minimal::{copies_of, left_in_turn, marks_used_again};
+use crate::minimal::{copies_of, left_in_turn, trimmed_marks};
 use crate::solver::Solver;
 use resolver_clause_store::{DependencyProvider, Exhausted, Interner};
 use resolver_report::{
@@ -23,9 +23,6 @@ use resolver_report::{
     graphs_of_true_rules_are_true, keep_reached,
 };
 use std::hash::Hash;
-
-/// The number of clauses that a search of [`Conflict::refined`] may learn.
-const LEARNT_LIMIT: usize = 2000;
 
 /// Rules that no set of solvables obeys together.
 ///
@@ -76,64 +73,18 @@ impl<N: Copy + Eq + Ord + Hash + Drop, S: Copy + Eq + Ord + Hash + Drop> Conflic
         Ok(Conflict { rules })
     }
 
-    /// Returns a conflict of the rules that a new search over them uses, in their order.
+    /// Returns a conflict of fewer of the rules, in their order, as far as short searches over their clauses find one.
     ///
-    /// It often has fewer rules, and never more, but nothing is promised about its size: [`Conflict::minimal`] leaves
-    /// out every rule that can go, and takes far longer. A search may learn 2,000 clauses here;
-    /// [`Conflict::refined_within`] takes another limit.
-    ///
-    /// The error is always [`Exhausted::Memory`].
-    pub fn refined(&self) -> Result<Conflict<N, S>, Exhausted>
+    /// Nothing is promised about its size. The error is always [`Exhausted::Memory`].
+    pub(crate) fn trimmed(&self) -> Result<Conflict<N, S>, Exhausted>
         requires names { IsIdentity N.eq }
         requires solvables { IsIdentity S.eq }
-        ensures part { IfOk result (λ refined. CopiesPart (rules_in self.now) (rules_in refined)) }
-        ensures refuted { IfOk result (λ refined. IsRefuted (rules_in self.now) → IsRefuted (rules_in refined)) }
-        ensures explains { IfOk result (λ refined.
-            (u : Universe N S) (root : Demands) → Explains u root (rules_in self.now) → Explains u root (rules_in refined)) }
-        ensures memory { IfErr result (λ e. e ≡ Exhausted.Memory) }
-    {
-        let refined = self.refined_within(LEARNT_LIMIT)?;
-        Ok(refined)
-    }
-
-    /// Returns a conflict of the rules that a new search over them uses, if that search learns no more clauses than the
-    /// limit.
-    ///
-    /// Up to three searches run, each over the rules that the one before used, as long as each drops at least a tenth
-    /// of them. A search that would learn more clauses is given up, and the rules that the search before it used are
-    /// the result; if it is the first, all rules are. The error is always [`Exhausted::Memory`].
-    pub fn refined_within(&self, learnt_limit: usize) -> Result<Conflict<N, S>, Exhausted>
-        requires names { IsIdentity N.eq }
-        requires solvables { IsIdentity S.eq }
-        ensures part { IfOk result (λ refined. CopiesPart (rules_in self.now) (rules_in refined)) }
-        ensures refuted { IfOk result (λ refined. IsRefuted (rules_in self.now) → IsRefuted (rules_in refined)) }
-        ensures explains { IfOk result (λ refined.
-            (u : Universe N S) (root : Demands) → Explains u root (rules_in self.now) → Explains u root (rules_in refined)) }
-        ensures memory { IfErr result (λ e. e ≡ Exhausted.Memory) }
-    {
-        let refined = self.refined_variation(0, learnt_limit)?;
-        Ok(refined)
-    }
-
-    /// Returns a conflict of the rules that a new search over them uses, which takes their clauses in another order.
-    ///
-    /// Variation 0 is [`Conflict::refined_within`], and there are sixteen. Each may use other rules, so their messages can
-    /// differ in length a thousandfold. The error is always [`Exhausted::Memory`].
-    pub fn refined_variation(
-        &self,
-        variation: usize,
-        learnt_limit: usize,
-    ) -> Result<Conflict<N, S>, Exhausted>
-        requires names { IsIdentity N.eq }
-        requires solvables { IsIdentity S.eq }
-        ensures part { IfOk result (λ refined. CopiesPart (rules_in self.now) (rules_in refined)) }
-        ensures refuted { IfOk result (λ refined. IsRefuted (rules_in self.now) → IsRefuted (rules_in refined)) }
-        ensures explains { IfOk result (λ refined.
-            (u : Universe N S) (root : Demands) → Explains u root (rules_in self.now) → Explains u root (rules_in refined)) }
+        ensures explains { IfOk result (λ trimmed.
+            (u : Universe N S) (root : Demands) → Explains u root (rules_in self.now) → Explains u root (rules_in trimmed)) }
         ensures memory { IfErr result (λ e. e ≡ Exhausted.Memory) }
     {
         let alloc = *self.rules.allocator();
-        let marks = marks_used_again(alloc, self.rules(), learnt_limit, variation)?;
+        let marks = trimmed_marks(alloc, self.rules())?;
         let copies = copies_of(alloc, self.rules(), &marks)?;
         let rules = keep_reached(alloc, copies)?;
         Ok(Conflict { rules })

@@ -2,10 +2,10 @@
 
 mod decision;
 mod no_packages;
-mod refining;
 mod rotation;
 mod rule_clauses;
 mod rule_codes;
+mod trimming;
 
 ghost use Rattle.std.specs.Prelude.{[], IfErr, IfOk, IfSome, IsSome, OnOk, false, length, replicate, take, true, ◌+◌, ◌-◌, ◌<◌, ◌≡◌};
 ghost use Rattle.std.specs.List.{AllZip, slice_index_or};
@@ -18,7 +18,6 @@ ghost use Rattle.resolvo.specs.Minimal.{IsUnderway, LeavesInTurn, marked, others
 ghost use Rattle.resolvo.specs.Rotations.{AreNeeded, AreUnderway};
 
 use decision::{Verdict, decide};
-pub use refining::marks_used_again;
 use resolver_clause_store::{Exhausted, Rule};
 use resolver_report::find;
 use rotation::rotate;
@@ -26,6 +25,7 @@ use rule_clauses::{RuleClauses, clauses_of};
 use std::alloc::{AllocError, Global};
 use std::hash::Hash;
 use std::mem::drop;
+pub use trimming::trimmed_marks;
 
 /// Copies the marked rules.
 pub fn copies_of<N: Copy + Drop, S: Copy + Drop>(

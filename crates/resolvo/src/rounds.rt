@@ -2,19 +2,17 @@
 
 mod soft_turns;
 
-ghost use Rattle.std.specs.Iterator.{Drains, IsFinite};
-ghost use Rattle.std.specs.Prelude.{◌≡◌, ◌+◌, ◌++◌, ◌∷◌, ◌≤◌, ◌<◌, ◌⊎◌, ◌^◌, [], Contains, IfErr, IfNone, IfOk, IfSome, List, None, OnOk, Some, false, length, map};
-ghost use Rattle.std.specs.Prelude.{slice_get, true};
+ghost use Rattle.std.specs.Iterator.{IsFinite};
+ghost use Rattle.std.specs.Prelude.{◌≡◌, ◌+◌, ◌-◌, ◌++◌, ◌≤◌, ◌<◌, ◌⊎◌, ◌^◌, [], Contains, IfErr, IfNone, IfOk, IfSome, List, None, OnOk, Some, false, length, map};
+ghost use Rattle.std.specs.Prelude.{min, slice_get, true};
 ghost use Rattle.resolver_clause_store.specs.TrailView.{length_of, slot_of};
 ghost use Rattle.resolver_clause_store.specs.Universe.{Demands};
-ghost use Rattle.resolver_clause_store.specs.declared.SoftRequirement.{SoftRequirement as SoftRequirementOf};
 ghost use Rattle.resolver_clause_store.specs.declared.SoftRequirement.TheVariants.{Solvable as SoftSolvable};
 ghost use Rattle.resolver_clause_store.specs.declared.Origin.TheVariants.{Solvable as SolvableOrigin};
-ghost use Rattle.resolvo.specs.Problems.{AreItems, HaveBegun};
+ghost use Rattle.resolvo.specs.Problems.{AreItems};
 ghost use Rattle.resolver_clause_store.specs.Caches.{IsTrueCache};
 ghost use Rattle.resolver_clause_store.specs.Laws.{IsIdentity};
 ghost use Rattle.resolver_clause_store.specs.Variables.{AreDistinct};
-ghost use Rattle.resolver_encoding.specs.Led.{AreLed};
 ghost use Rattle.resolver_encoding.specs.Refusals.{IsStop};
 ghost use Rattle.resolver_encoding.specs.SoFar.{IsProgress, IsReadSoFar};
 ghost use Rattle.resolver_encoding.specs.Reach.{AreNear};
@@ -69,7 +67,7 @@ pub struct Rounds<N: Copy + Eq + Hash + Drop, S: Copy + Eq + Hash + Drop> {
 impl<N: Copy + Eq + Hash + Drop, S: Copy + Eq + Hash + Drop> Rounds<N, S> {
     ghost use Rattle.resolvo.specs.RoundStates.{AreRounds, GoesOn, HasAllClauses, HasFollowed, HasBookmark, HasAssumed, HasTurned, IsAnswering, IsDone};
     ghost use Rattle.resolvo.specs.RoundStates.{IsFollowing, IsRefusing, IsFound, IsFresh, IsStill, IsRound, IsSearchOf, IsStuck, IsUnanswered, IsUpToDate};
-    ghost use Rattle.resolvo.specs.RoundStates.{IsStanding, IsLedBy, KeepsEncoding, KeepsRead, KeepsRoom, LeadsOn, LeadsTurns, StaysLed};
+    ghost use Rattle.resolvo.specs.RoundStates.{IsStanding, KeepsEncoding, KeepsRoom};
     ghost use Rattle.resolvo.specs.RoundStates.{chosen_of, clause_limit_of, learnt_limit_of, notes_of, search_of};
 
     /// Returns rounds that have read nothing.
@@ -88,6 +86,7 @@ impl<N: Copy + Eq + Hash + Drop, S: Copy + Eq + Hash + Drop> Rounds<N, S> {
         ensures clauses { (notes_of result).clause_limit ≡ clause_limit }
         ensures all_clauses { clause_limit_of result ≡ clause_limit }
         ensures learnt { learnt_limit_of result ≡ learnt_limit }
+        ensures none_learnt { learnt_count_of (search_of result) ≡ 0 }
     {
         Rounds {
             alloc,
@@ -100,22 +99,13 @@ impl<N: Copy + Eq + Hash + Drop, S: Copy + Eq + Hash + Drop> Rounds<N, S> {
         }
     }
 
-    /// Returns the number of learnt clauses.
-    pub fn learnt_count(&self) -> usize
-        ensures { result ≡ learnt_count_of (search_of self.now) }
-    {
-        self.search.learnt_count()
-    }
-
-    /// Returns the number of clauses, given and learnt.
+    /// Returns the number of clauses, read and learnt, or the highest number if there are more.
     pub fn clause_count(&self) -> usize
-        ensures read { length (notes_of self.now).kinds ≤ result }
-        ensures searched { clause_count_of (search_of self.now) ≤ result }
-        ensures all { HasAllClauses self.now → result ≡ length (notes_of self.now).kinds + learnt_count_of (search_of self.now) }
+        ensures { result ≡ min (length (notes_of self.now).kinds + learnt_count_of (search_of self.now)) (2 ^ 64 - 1) }
     {
-        let learnt = self.search.learnt_count();
-        let all = self.encoding.clause_count().saturating_add(learnt);
-        all.max(self.search.clause_count())
+        self.encoding
+            .clause_count()
+            .saturating_add(self.search.learnt_count())
     }
 
     /// Reads the root.
@@ -136,8 +126,6 @@ impl<N: Copy + Eq + Hash + Drop, S: Copy + Eq + Hash + Drop> Rounds<N, S> {
             (notes_of self.new)) }
         ensures exempt { OnOk result ((notes_of self.new).exempt ≡ []) }
         ensures turn { OnOk result (IsRootTurn (search_of self.new)) }
-        ensures led { (seeds : List S) (packages : List N) → AreLed (D.universe provider.now)
-            (record { requirements = requirements.now; constraints = constraints.now }) seeds packages (notes_of self.new) }
         ensures limits { KeepsRoom self.old self.new }
         ensures refusal { IfErr result (IsStop (D.may_cancel provider.now) (IsStuck self.new)) }
     {
@@ -234,7 +222,6 @@ impl<N: Copy + Eq + Hash + Drop, S: Copy + Eq + Hash + Drop> Rounds<N, S> {
         ensures followed { OnOk result (HasFollowed self.old self.new) }
         ensures progress { IfOk result (IsProgress (notes_of self.old) (notes_of self.new)) }
         ensures fit { OnOk result (length (notes_of self.new).read ≤ (notes_of self.new).variable_limit) }
-        ensures led { LeadsOn (D.universe provider.now) self.old self.new }
         ensures limits { KeepsRoom self.old self.new }
         ensures refusal { IfErr result (IsStop (D.may_cancel provider.now) (IsStuck self.new)) }
     {
@@ -285,7 +272,6 @@ impl<N: Copy + Eq + Hash + Drop, S: Copy + Eq + Hash + Drop> Rounds<N, S> {
         ensures keeps { OnOk result (GoesOn (D.universe provider.now) self.old self.new) }
         ensures progress { IfOk result (IsProgress (notes_of self.old) (notes_of self.new)) }
         ensures fit { IfOk result (λ progress. progress ≡ ReadProgress → length (notes_of self.new).read ≤ (notes_of self.new).variable_limit) }
-        ensures led { LeadsOn (D.universe provider.now) self.old self.new }
         ensures limits { KeepsRoom self.old self.new }
         ensures refusal { IfErr result (IsStop (D.may_cancel provider.now) (IsStuck self.new)) }
     {
@@ -308,7 +294,6 @@ impl<N: Copy + Eq + Hash + Drop, S: Copy + Eq + Hash + Drop> Rounds<N, S> {
         ensures rounds { OnOk result (AreRounds (D.universe provider.now) self.new) }
         ensures keeps { OnOk result (GoesOn (D.universe provider.now) self.old self.new) }
         ensures round { IfOk result (IsRound (D.universe provider.now) self.old self.new) }
-        ensures led { LeadsOn (D.universe provider.now) self.old self.new }
         ensures limits { KeepsRoom self.old self.new }
         ensures refusal { IfErr result (IsStop (D.may_cancel provider.now) (IsStuck self.new)) }
     {
@@ -335,7 +320,6 @@ impl<N: Copy + Eq + Hash + Drop, S: Copy + Eq + Hash + Drop> Rounds<N, S> {
         ensures rounds { OnOk result (AreRounds (D.universe provider.now) self.new) }
         ensures keeps { OnOk result (GoesOn (D.universe provider.now) self.old self.new) }
         ensures round { IfOk result (IsRound (D.universe provider.now) self.old self.new) }
-        ensures led { LeadsOn (D.universe provider.now) self.old self.new }
         ensures limits { KeepsRoom self.old self.new }
         ensures refusal { IfErr result (IsStop (D.may_cancel provider.now) (IsStuck self.new)) }
     {
@@ -364,7 +348,6 @@ impl<N: Copy + Eq + Hash + Drop, S: Copy + Eq + Hash + Drop> Rounds<N, S> {
         ensures counted { IfOk result (λ answer. IfSome answer (λ _. HasAllClauses self.new)) }
         ensures read { IfOk result (λ answer. IfNone answer (length (notes_of self.old).read < length (notes_of self.new).read)) }
         ensures fit { IfOk result (λ answer. IfNone answer (length (notes_of self.new).read ≤ (notes_of self.new).variable_limit)) }
-        ensures led { LeadsOn (D.universe provider.now) self.old self.new }
         ensures limits { KeepsRoom self.old self.new }
         ensures refusal { IfErr result (IsStop (D.may_cancel provider.now) (IsStuck self.new)) }
     {
@@ -390,7 +373,6 @@ impl<N: Copy + Eq + Hash + Drop, S: Copy + Eq + Hash + Drop> Rounds<N, S> {
         ensures keeps { OnOk result (GoesOn (D.universe provider.now) self.old self.new) }
         ensures found { IfOk result (IsFound (D.universe provider.now) self.new) }
         ensures counted { OnOk result (HasAllClauses self.new) }
-        ensures led { LeadsOn (D.universe provider.now) self.old self.new }
         ensures limits { KeepsRoom self.old self.new }
         ensures refusal { IfErr result (IsStop (D.may_cancel provider.now) (IsStuck self.new)) }
     {
@@ -420,7 +402,6 @@ impl<N: Copy + Eq + Hash + Drop, S: Copy + Eq + Hash + Drop> Rounds<N, S> {
         ensures still { OnOk result (IsStill self.new) }
         ensures counted { OnOk result (HasAllClauses self.new) }
         ensures refused { OnOk result (IsRefusing (D.universe provider.now) variable exempt self.old self.new) }
-        ensures led { StaysLed (D.universe provider.now) self.old self.new }
         ensures limits { KeepsRoom self.old self.new }
         ensures refusal { IfErr result (IsStop (D.may_cancel provider.now) (IsStuck self.new)) }
     {
@@ -449,7 +430,6 @@ impl<N: Copy + Eq + Hash + Drop, S: Copy + Eq + Hash + Drop> Rounds<N, S> {
         ensures counted { OnOk result (HasAllClauses self.new) }
         ensures answer { IfOk result (λ answered. answered ≡ true → IsAnswering (D.universe provider.now) self.new) }
         ensures unanswered { IfOk result (λ answered. answered ≡ false → IsUnanswered self.new) }
-        ensures led { LeadsOn (D.universe provider.now) self.old self.new }
         ensures limits { KeepsRoom self.old self.new }
         ensures refusal { IfErr result (IsStop (D.may_cancel provider.now) (IsStuck self.new)) }
     {
@@ -483,7 +463,6 @@ impl<N: Copy + Eq + Hash + Drop, S: Copy + Eq + Hash + Drop> Rounds<N, S> {
             (root : Demands) (taken refused seeds : List S) (packages : List N) → Contains (notes_of self.old).seen solvable → Contains seeds solvable →
             IsStanding (D.universe provider.now) root taken refused seeds packages self.old →
             HasTurned (D.universe provider.now) root taken refused seeds packages solvable self.old self.new is_chosen) }
-        ensures led { Contains (notes_of self.old).seen solvable → LeadsTurns (D.universe provider.now) (solvable ∷ []) self.old self.new }
         ensures limits { KeepsRoom self.old self.new }
         ensures refusal { IfErr result (IsStop (D.may_cancel provider.now) (IsStuck self.new)) }
     {
@@ -520,7 +499,6 @@ impl<N: Copy + Eq + Hash + Drop, S: Copy + Eq + Hash + Drop> Rounds<N, S> {
             (root : Demands) (taken refused seeds : List S) (packages : List N) → Contains seeds solvable →
             IsStanding (D.universe provider.now) root taken refused seeds packages self.old →
             HasTurned (D.universe provider.now) root taken refused seeds packages solvable self.old self.new is_chosen) }
-        ensures led { LeadsTurns (D.universe provider.now) (solvable ∷ []) self.old self.new }
         ensures limits { KeepsRoom self.old self.new }
         ensures refusal { IfErr result (IsStop (D.may_cancel provider.now) (IsStuck self.new)) }
     {
@@ -557,8 +535,6 @@ impl<N: Copy + Eq + Hash + Drop, S: Copy + Eq + Hash + Drop> Rounds<N, S> {
             (map SoftSolvable items ++ list.now) self.new found) }
         ensures counted { OnOk result (HasAllClauses self.new) }
         ensures table { OnOk result (length (notes_of self.new).table ≡ length (notes_of self.new).kinds) }
-        ensures led { (done : List (SoftRequirementOf S)) × HaveBegun I.next_gives soft list.now done × IsLedBy (D.universe provider.now)
-            (record { requirements = requirements.now; constraints = constraints.now }) done self.new }
         ensures limits { KeepsRoom self.old self.new }
         ensures refusal { IfErr result (IsStop (D.may_cancel provider.now) (IsStuck self.new)) }
     {

@@ -12,7 +12,7 @@ ghost use Rattle.resolvo.specs.Answers.{IsSoftAnswer};
 ghost use Rattle.resolvo.specs.Conflicts.{rules_in};
 ghost use Rattle.resolvo.specs.Explanations.{Explains};
 ghost use Rattle.resolvo.specs.declared.rounds.Found.TheVariants.{Answer as FoundAnswer};
-ghost use Rattle.resolvo.specs.Problems.{AreItems, HaveBegun, demands_in, list_in, soft_in};
+ghost use Rattle.resolvo.specs.Problems.{AreItems, demands_in, list_in, soft_in};
 ghost use Rattle.resolver_clause_store.specs.declared.SoftRequirement.{SoftRequirement as SoftRequirementOf};
 ghost use Rattle.resolver_clause_store.specs.declared.SoftRequirement.TheVariants.{Solvable as SoftSolvable};
 ghost use Rattle.std.specs.Iterator.{IsFinite};
@@ -20,8 +20,8 @@ ghost use Rattle.resolvo.specs.declared.solver.UnsolvableOrCancelled.TheVariants
 ghost use Rattle.resolver_clause_store.specs.declared.Exhausted.TheVariants.{Memory};
 ghost use Rattle.resolvo.specs.Refusals.{IsRefusal};
 ghost use Rattle.resolvo.specs.RoundStates.{IsDone, IsSomeDone, IsStuck, chosen_of, notes_of};
-ghost use Rattle.resolvo.specs.Solvers.{HasActivity, HasCounted, HasLimits, IsAtLimit, IsSound, KeepsActivity, KeepsAllButCounts, KeepsCounts, KeepsLimits};
-ghost use Rattle.resolvo.specs.Solvers.{clause_count_in, deferred_count_in, exempt_in, provider_in};
+ghost use Rattle.resolvo.specs.Solvers.{HasActivity, HasLimits, IsAtLimit, IsSound, KeepsActivity, KeepsLimits};
+ghost use Rattle.resolvo.specs.Solvers.{clause_count_in, deferred_count_in, exempt_in, provider_in, rounds_in};
 
 use crate::conflict::Conflict;
 use crate::problem::Problem;
@@ -45,7 +45,7 @@ pub enum UnsolvableOrCancelled<D: DependencyProvider> {
     Exhausted(Exhausted),
 }
 
-/// Returns the conflict of an unsatisfiable core: its rules that are about what they reach.
+/// Returns the conflict of an unsatisfiable core: its rules that are about what they reach, trimmed.
 fn explain<D: DependencyProvider>(
     alloc: Global,
     provider: &D,
@@ -63,39 +63,26 @@ fn explain<D: DependencyProvider>(
 {
     let stated = rules_of_clauses(alloc, provider, cache, kinds, core)?;
     let rules = keep_reached(alloc, stated)?;
-    Ok(Conflict { rules })
-}
-
-/// Returns the tables of a search that ended with an answer. Frees those of any other search, whose memory the message of
-/// a conflict may need.
-fn kept_after<T: Drop>(is_answer: bool, tables: T) -> Option<T> {
-    if is_answer {
-        return Some(tables);
-    }
-    drop(tables);
-    None
+    let whole = Conflict { rules };
+    let conflict = whole.trimmed()?;
+    Ok(conflict)
 }
 
 /// Solves problems over one provider.
 ///
 /// However a call of `solve` ends, the next one starts afresh. It keeps only the limits, the parameters of the scores,
-/// and the provider's answers, which are true. After an answer, the tables of the search stay in memory until the next
-/// call or until the solver is dropped, so a program that ends then need not free each of their blocks.
+/// and the provider's answers, which are true. The state in which a search ended stays until the next one.
 #[derive(Drop)]
 pub struct Solver<D: DependencyProvider> {
     alloc: Global,
     provider: D,
     cache: Cache<D::NameId, D::SolvableId>,
-    variable_count: usize,
-    clause_count: usize,
-    learnt_count: usize,
-    deferred_count: usize,
+    rounds: Rounds<D::NameId, D::SolvableId>,
     exempt: Vec<D::SolvableId>,
     variable_limit: usize,
     clause_limit: usize,
     learnt_limit: usize,
     activity: Activity,
-    finished: Option<Rounds<D::NameId, D::SolvableId>>,
 }
 
 impl<D: DependencyProvider> Solver<D> {
@@ -114,16 +101,12 @@ impl<D: DependencyProvider> Solver<D> {
             alloc,
             provider,
             cache: Cache::new(alloc),
-            variable_count: 0,
-            clause_count: 0,
-            learnt_count: 0,
-            deferred_count: 0,
+            rounds: Rounds::new(alloc, 1 << 31, 1 << 31, 1 << 31, Activity::standard()),
             exempt: Vec::new(alloc),
             variable_limit: 1 << 31,
             clause_limit: 1 << 31,
             learnt_limit: 1 << 31,
             activity: Activity::standard(),
-            finished: None,
         }
     }
 
@@ -137,7 +120,7 @@ impl<D: DependencyProvider> Solver<D> {
         ensures provider { provider_in result ≡ provider_in self }
         ensures sound { IsSound (D.universe (provider_in self)) self → IsSound (D.universe (provider_in result)) result }
         ensures limits { KeepsLimits self result }
-        ensures counts { KeepsCounts self result }
+        ensures rounds { rounds_in result ≡ rounds_in self }
         ensures exempt { exempt_in result ≡ exempt_in self }
     {
         self.activity = Activity { add, decay };
@@ -164,7 +147,7 @@ impl<D: DependencyProvider> Solver<D> {
     pub fn clause_count(&self) -> usize
         ensures { result ≡ clause_count_in self.now }
     {
-        self.clause_count
+        self.rounds.clause_count()
     }
 
     /// Returns the number of disjuncts that were still deferred when the last call of `solve` ended: no clause was made
@@ -172,38 +155,24 @@ impl<D: DependencyProvider> Solver<D> {
     pub fn deferred_requirements_count(&self) -> usize
         ensures { result ≡ deferred_count_in self.now }
     {
-        self.deferred_count
-    }
-
-    /// Takes over the counts of the rounds.
-    fn count(&mut self, rounds: &Rounds<D::NameId, D::SolvableId>)
-        ensures counted { HasCounted rounds.now self.new }
-        ensures rest { KeepsAllButCounts self.old self.new }
-    {
-        self.variable_count = rounds.encoding.variables().len();
-        self.clause_count = rounds.clause_count();
-        self.learnt_count = rounds.learnt_count();
-        self.deferred_count = rounds.encoding.deferred_count();
+        self.rounds.encoding.deferred_count()
     }
 
     /// Turns an unsatisfiable core into a conflict.
-    fn refuse(
-        &mut self,
-        kinds: &ClauseKinds<D::NameId, D::SolvableId>,
-        core: &[usize],
-    ) -> UnsolvableOrCancelled<D>
+    fn refuse(&mut self, core: &[usize]) -> UnsolvableOrCancelled<D>
         requires sound { IsSound (D.universe (provider_in self.old)) self.old }
-        requires within { All (λ n. n < length kinds.now) core.now }
+        requires within { All (λ n. n < length (notes_of (rounds_in self.old)).kinds) core.now }
         ensures sound { IsSound (D.universe (provider_in self.new)) self.new }
         ensures provider { provider_in self.new ≡ provider_in self.old }
         ensures limits { KeepsLimits self.old self.new }
         ensures activity { KeepsActivity self.old self.new }
-        ensures counts { KeepsCounts self.old self.new }
+        ensures rounds { rounds_in self.new ≡ rounds_in self.old }
         ensures exempt { exempt_in self.new ≡ exempt_in self.old }
-        ensures refusal { (root : Demands) (notes : Notes D.NameId D.SolvableId) → notes.kinds ≡ kinds.now →
-            IsEncoding (D.universe (provider_in self.old)) root notes → IsCore notes.table core.now →
+        ensures refusal { (root : Demands) → IsEncoding (D.universe (provider_in self.old)) root (notes_of (rounds_in self.old)) →
+            IsCore (notes_of (rounds_in self.old)).table core.now →
             IsRefusal (D.universe (provider_in self.old)) (D.may_cancel (provider_in self.old)) root ⊥ result }
     {
+        let kinds = self.rounds.encoding.kinds();
         match explain(self.alloc, &self.provider, &mut self.cache, kinds, core) {
             Err(Interrupted::Cancelled(value)) => UnsolvableOrCancelled::Cancelled(value),
             Err(Interrupted::Exhausted(e)) => UnsolvableOrCancelled::Exhausted(e),
@@ -212,25 +181,22 @@ impl<D: DependencyProvider> Solver<D> {
     }
 
     /// Returns the chosen solvables as the answer, and keeps the exempt ones.
-    fn accept(
-        &mut self,
-        rounds: &Rounds<D::NameId, D::SolvableId>,
-    ) -> Result<Vec<D::SolvableId>, UnsolvableOrCancelled<D>>
+    fn accept(&mut self) -> Result<Vec<D::SolvableId>, UnsolvableOrCancelled<D>>
         requires sound { IsSound (D.universe (provider_in self.old)) self.old }
         requires none { exempt_in self.old ≡ [] }
         ensures sound { IsSound (D.universe (provider_in self.new)) self.new }
         ensures provider { provider_in self.new ≡ provider_in self.old }
         ensures limits { KeepsLimits self.old self.new }
         ensures activity { KeepsActivity self.old self.new }
-        ensures counts { KeepsCounts self.old self.new }
-        ensures chosen { IfOk result (λ chosen. chosen.items ≡ chosen_of rounds.now) }
-        ensures exempt { OnOk result (exempt_in self.new ≡ (notes_of rounds.now).exempt) }
+        ensures rounds { rounds_in self.new ≡ rounds_in self.old }
+        ensures chosen { IfOk result (λ chosen. chosen.items ≡ chosen_of (rounds_in self.old)) }
+        ensures exempt { OnOk result (exempt_in self.new ≡ (notes_of (rounds_in self.old)).exempt) }
         ensures none { OnErr result (exempt_in self.new ≡ []) }
         ensures memory { IfErr result (λ e. e ≡ ExhaustedError Memory) }
     {
-        match rounds.chosen.to_vec(self.alloc) {
+        match self.rounds.chosen.to_vec(self.alloc) {
             Err(e) => Err(UnsolvableOrCancelled::Exhausted(e)),
-            Ok(chosen) => match Vec::from_slice(self.alloc, rounds.encoding.exempt()) {
+            Ok(chosen) => match Vec::from_slice(self.alloc, self.rounds.encoding.exempt()) {
                 Err(_) => Err(UnsolvableOrCancelled::Exhausted(Exhausted::Memory)),
                 Ok(exempt) => {
                     self.exempt = exempt;
@@ -243,34 +209,35 @@ impl<D: DependencyProvider> Solver<D> {
     /// Turns the result of the rounds into the result of `solve`.
     fn outcome(
         &mut self,
-        rounds: &Rounds<D::NameId, D::SolvableId>,
         found: Result<Found, Interrupted<D::Cancel>>,
     ) -> Result<Vec<D::SolvableId>, UnsolvableOrCancelled<D>>
         requires sound { IsSound (D.universe (provider_in self.old)) self.old }
         requires none { exempt_in self.old ≡ [] }
-        requires done { IfOk found (IsSomeDone (D.universe (provider_in self.old)) rounds.now) }
-        requires table { OnOk found (length (notes_of rounds.now).table ≡ length (notes_of rounds.now).kinds) }
-        requires stop { IfErr found (IsStop (D.may_cancel (provider_in self.old)) (IsStuck rounds.now)) }
+        requires done { IfOk found (IsSomeDone (D.universe (provider_in self.old)) (rounds_in self.old)) }
+        requires table { OnOk found (length (notes_of (rounds_in self.old)).table ≡ length (notes_of (rounds_in self.old)).kinds) }
+        requires stop { IfErr found (IsStop (D.may_cancel (provider_in self.old)) (IsStuck (rounds_in self.old))) }
         ensures sound { IsSound (D.universe (provider_in self.new)) self.new }
         ensures provider { provider_in self.new ≡ provider_in self.old }
         ensures limits { KeepsLimits self.old self.new }
         ensures activity { KeepsActivity self.old self.new }
-        ensures counts { KeepsCounts self.old self.new }
+        ensures rounds { rounds_in self.new ≡ rounds_in self.old }
         ensures none { OnErr result (exempt_in self.new ≡ []) }
         ensures found { OnOk result (found ≡ Ok FoundAnswer) }
         ensures answer { IfOk result (λ chosen.
-            (root : Demands) (soft : List (SoftRequirementOf D.SolvableId)) → IfOk found (IsDone (D.universe (provider_in self.old)) root soft rounds.now) →
+            (root : Demands) (soft : List (SoftRequirementOf D.SolvableId)) →
+            IfOk found (IsDone (D.universe (provider_in self.old)) root soft (rounds_in self.old)) →
             IsSoftAnswer (D.universe (provider_in self.old)) root soft chosen.items (exempt_in self.new)) }
         ensures refusal { IfErr result (λ e.
-            (root : Demands) (soft : List (SoftRequirementOf D.SolvableId)) → IfOk found (IsDone (D.universe (provider_in self.old)) root soft rounds.now) →
-            IsRefusal (D.universe (provider_in self.old)) (D.may_cancel (provider_in self.old)) root (IsStuck rounds.now) e) }
+            (root : Demands) (soft : List (SoftRequirementOf D.SolvableId)) →
+            IfOk found (IsDone (D.universe (provider_in self.old)) root soft (rounds_in self.old)) →
+            IsRefusal (D.universe (provider_in self.old)) (D.may_cancel (provider_in self.old)) root (IsStuck (rounds_in self.old)) e) }
     {
         match found {
             Err(Interrupted::Cancelled(value)) => Err(UnsolvableOrCancelled::Cancelled(value)),
             Err(Interrupted::Exhausted(e)) => Err(UnsolvableOrCancelled::Exhausted(e)),
-            Ok(Found::Answer) => self.accept(rounds),
-            Ok(Found::Contradiction(core)) => Err(self.refuse(rounds.encoding.kinds(), &core)),
-            Ok(Found::Refused) => Err(self.refuse(rounds.encoding.kinds(), &[])),
+            Ok(Found::Answer) => self.accept(),
+            Ok(Found::Contradiction(core)) => Err(self.refuse(&core)),
+            Ok(Found::Refused) => Err(self.refuse(&[])),
         }
     }
 
@@ -299,19 +266,19 @@ impl<D: DependencyProvider> Solver<D> {
             (exempt_in self.new)) }
         ensures none { OnErr result (exempt_in self.new ≡ []) }
         ensures refusal { IfErr result
-            (IsRefusal (D.universe (provider_in self.old)) (D.may_cancel (provider_in self.old)) (demands_in problem)
-            (IsAtLimit (D.universe (provider_in self.old)) (demands_in problem) (HaveBegun S.next_gives (soft_in problem) (list_in problem)) self.new)) }
+            (IsRefusal (D.universe (provider_in self.old)) (D.may_cancel (provider_in self.old)) (demands_in problem) (IsAtLimit self.new)) }
     {
-        drop(self.finished.take());
-        let mut rounds = Rounds::new(
+        self.exempt = Vec::new(self.alloc);
+        let rounds = Rounds::new(
             self.alloc,
             self.variable_limit,
             self.clause_limit,
             self.learnt_limit,
             self.activity,
         );
+        drop(replace(&mut self.rounds, rounds));
         let soft = problem.soft_requirements.take();
-        let found = rounds.find(
+        let found = self.rounds.find(
             &self.provider,
             &mut self.cache,
             problem.root_requirements(),
@@ -319,11 +286,7 @@ impl<D: DependencyProvider> Solver<D> {
             soft,
             problem.listed_soft_requirements(),
         );
-        self.exempt = Vec::new(self.alloc);
-        self.count(&rounds);
-        let answer = self.outcome(&rounds, found);
-        let kept = kept_after(answer.is_ok(), rounds);
-        drop(replace(&mut self.finished, kept));
+        let answer = self.outcome(found);
         answer
     }
 }

@@ -2,11 +2,9 @@
 //!
 //! The tests own nothing: what they call makes the rules, the graph and the message, and asserts it.
 
-use super::rules::{Row, graph_of_rows, instance_of, required_in};
-use super::texts::{Texts, expect_message};
-use resolver_clause_store::{By, Exhausted};
-use resolver_report::DisplayUnsat;
-use std::alloc::Global;
+use super::rules::{Row, instance_of, required_in};
+use super::texts::expect_message;
+use resolver_clause_store::By;
 use std::test::Fail;
 
 #[test]
@@ -108,37 +106,5 @@ fn a_constraint_of_the_root(rt: HostRuntime) -> Result<(), Fail> {
 ├─ the constraint b >=2, <3 cannot be fulfilled
 ";
     expect_message(&rt, rt.alloc(), &rows, text)?;
-    Ok(())
-}
-
-/// Whether the message has this text within its length, and is too long for one byte less.
-fn is_just_within(alloc: Global, rows: &[Row<'_>], text: &str) -> Result<bool, Exhausted> {
-    let message = DisplayUnsat::new(graph_of_rows(alloc, rows)?, &Texts);
-    let short = message.text_within(text.len().saturating_sub(1))?;
-    if short.is_some() {
-        return Ok(false);
-    }
-    let found = message.text_within(text.len())?;
-    Ok(matches!(found, Some(it) if it.as_str() == text))
-}
-
-#[test]
-fn a_message_is_within_its_length_and_not_within_less(rt: HostRuntime) -> Result<(), Fail> {
-    let missing = [required_in(By::Root, 7, &[]), required_in(By::Root, 7, &[])];
-    let tree_alone = "x * cannot be installed because there are no viable options:\n";
-    assert!(rt; is_just_within(rt.alloc(), &missing, tree_alone)?);
-    let locked = [
-        required_in(By::Root, 1, &[1]),
-        Row::Lock {
-            locked: 0,
-            forbidden: 1,
-        },
-    ];
-    let more_than_trees = "The following packages are incompatible
-└─ a >=2, <3 can be installed with any of the following options:
-   └─ a 2
-├─ a 1 is locked, but another version is required as reported above
-";
-    assert!(rt; is_just_within(rt.alloc(), &locked, more_than_trees)?);
     Ok(())
 }

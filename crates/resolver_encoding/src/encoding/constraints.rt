@@ -1,6 +1,6 @@
 //! Clauses of constraints.
 
-ghost use Rattle.std.specs.Prelude.{◌≡◌, [], ◌∷◌, All, Contains, IfErr, IfNone, IfSome, MatchBool, OnOk, ⊤};
+ghost use Rattle.std.specs.Prelude.{◌≡◌, All, Contains, IfErr, IfNone, IfSome, MatchBool, OnOk, ⊤};
 ghost use Rattle.resolver_clause_store.specs.Caches.{IsTrueCache};
 ghost use Rattle.resolver_clause_store.specs.Candidates.{others};
 ghost use Rattle.resolver_clause_store.specs.Laws.{IsIdentity};
@@ -9,7 +9,6 @@ ghost use Rattle.resolver_clause_store.specs.declared.ClauseKind.TheVariants.{Co
 ghost use Rattle.resolver_clause_store.specs.declared.ClauseKind.TheVariants.{ConstrainsParent as ParentKind};
 ghost use Rattle.resolver_encoding.specs.Called.{IsAsking};
 ghost use Rattle.resolver_encoding.specs.Encodings.{HasConstraint, IsAskStep, IsConstraintRead, IsEncodingOf, IsFull, IsStep};
-ghost use Rattle.resolver_encoding.specs.Led.{AddsOnly, Brings, IsOfConstraint, IsOwn, with_constraints};
 ghost use Rattle.resolver_encoding.specs.Refusals.{IsShortage, IsStop};
 
 use super::Encoding;
@@ -69,7 +68,6 @@ impl<N: Copy + Eq + Hash + Drop, S: Copy + Eq + Hash + Drop> Encoding<N, S> {
         ensures step { OnOk result (IsStep (D.universe provider.now) (HasConstraint (D.universe provider.now) by version_set) (notes_in self.old)
             (notes_in self.new)) }
         ensures forbidden { OnOk result (Contains (notes_in self.new).kinds (ConstrainsKind by version_set candidate)) }
-        ensures adds { AddsOnly (IsOwn (D.universe provider.now) by (with_constraints (version_set ∷ []))) (notes_in self.old) (notes_in self.new) }
         ensures refusal { IfErr result (IsShortage (IsFull (notes_in self.new))) }
     {
         self.add(ClauseKind::Constrains {
@@ -94,7 +92,6 @@ impl<N: Copy + Eq + Hash + Drop, S: Copy + Eq + Hash + Drop> Encoding<N, S> {
         ensures step { OnOk result (IsStep (D.universe provider.now) (HasConstraint (D.universe provider.now) by version_set) (notes_in self.old)
             (notes_in self.new)) }
         ensures read { OnOk result (IsConstraintRead (D.universe provider.now) (notes_in self.new).kinds by version_set) }
-        ensures adds { AddsOnly (IsOwn (D.universe provider.now) by (with_constraints (version_set ∷ []))) (notes_in self.old) (notes_in self.new) }
         ensures refusal { IfErr result (IsShortage (IsFull (notes_in self.new))) }
     {
         for candidate in forbidden {
@@ -116,7 +113,6 @@ impl<N: Copy + Eq + Hash + Drop, S: Copy + Eq + Hash + Drop> Encoding<N, S> {
         ensures step { OnOk result (IsStep (D.universe provider.now) (λ root. ⊤) (notes_in self.old) (notes_in self.new)) }
         ensures excluded { OnOk result (All (λ s. Contains (notes_in self.new).kinds (ExcludedKind s version_set)) forbidden.now) }
         ensures constrained { OnOk result ((notes_in self.new).constrained ≡ (notes_in self.old).constrained) }
-        ensures adds { AddsOnly (IsOfConstraint (D.universe provider.now) version_set) (notes_in self.old) (notes_in self.new) }
         ensures refusal { IfErr result (IsShortage (IsFull (notes_in self.new))) }
     {
         for candidate in forbidden {
@@ -140,7 +136,6 @@ impl<N: Copy + Eq + Hash + Drop, S: Copy + Eq + Hash + Drop> Encoding<N, S> {
         ensures room { KeepsRoom self.old self.new }
         ensures step { OnOk result (IsStep (D.universe provider.now) (λ root. ⊤) (notes_in self.old) (notes_in self.new)) }
         ensures constrained { OnOk result (Contains (notes_in self.new).constrained version_set) }
-        ensures adds { AddsOnly (IsOfConstraint (D.universe provider.now) version_set) (notes_in self.old) (notes_in self.new) }
         ensures refusal { IfErr result (IsShortage (IsFull (notes_in self.new))) }
     {
         if is_among(&self.constrained, &version_set) {
@@ -163,7 +158,6 @@ impl<N: Copy + Eq + Hash + Drop, S: Copy + Eq + Hash + Drop> Encoding<N, S> {
         ensures step { OnOk result (IsStep (D.universe provider.now) (HasConstraint (D.universe provider.now) by version_set) (notes_in self.old)
             (notes_in self.new)) }
         ensures forbidden { OnOk result (Contains (notes_in self.new).kinds (ParentKind by version_set)) }
-        ensures adds { AddsOnly (IsOwn (D.universe provider.now) by (with_constraints (version_set ∷ []))) (notes_in self.old) (notes_in self.new) }
         ensures refusal { IfErr result (IsShortage (IsFull (notes_in self.new))) }
     {
         self.add(ClauseKind::ConstrainsParent {
@@ -188,7 +182,6 @@ impl<N: Copy + Eq + Hash + Drop, S: Copy + Eq + Hash + Drop> Encoding<N, S> {
             (notes_in self.new)) }
         ensures itself { OnOk result ((s : S) → by ≡ BySolvable s → Contains forbidden.now s →
             Contains (notes_in self.new).kinds (ConstrainsKind by version_set s)) }
-        ensures adds { AddsOnly (IsOwn (D.universe provider.now) by (with_constraints (version_set ∷ []))) (notes_in self.old) (notes_in self.new) }
         ensures refusal { IfErr result (IsShortage (IsFull (notes_in self.new))) }
     {
         match own_parent(provider, by, version_set) {
@@ -218,7 +211,6 @@ impl<N: Copy + Eq + Hash + Drop, S: Copy + Eq + Hash + Drop> Encoding<N, S> {
         ensures step { OnOk result (IsStep (D.universe provider.now) (HasConstraint (D.universe provider.now) by version_set) (notes_in self.old)
             (notes_in self.new)) }
         ensures read { OnOk result (IsConstraintRead (D.universe provider.now) (notes_in self.new).kinds by version_set) }
-        ensures adds { AddsOnly (IsOwn (D.universe provider.now) by (with_constraints (version_set ∷ []))) (notes_in self.old) (notes_in self.new) }
         ensures refusal { IfErr result (IsShortage (IsFull (notes_in self.new))) }
     {
         self.make_helper(provider, version_set, forbidden)?;
@@ -245,8 +237,6 @@ impl<N: Copy + Eq + Hash + Drop, S: Copy + Eq + Hash + Drop> Encoding<N, S> {
             (HasConstraint (D.universe provider.now) by version_set) (notes_in self.old) (notes_in self.new)) }
         ensures read { OnOk result (IsConstraintRead (D.universe provider.now) (notes_in self.new).kinds by version_set) }
         ensures asked { OnOk result (Contains (notes_in self.new).asked ((D.universe provider.now).version_set_name version_set)) }
-        ensures brings { Brings (D.universe provider.now) (IsAsking ((D.universe provider.now).version_set_name version_set))
-            (IsOwn (D.universe provider.now) by (with_constraints (version_set ∷ []))) (notes_in self.old) (notes_in self.new) }
         ensures refusal { IfErr result (IsStop (D.may_cancel provider.now) (IsFull (notes_in self.new))) }
     {
         self.ask(provider, cache, provider.version_set_name(version_set))?;

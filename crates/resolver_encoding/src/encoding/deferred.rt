@@ -7,7 +7,6 @@ ghost use Rattle.resolver_encoding.specs.ReadState.{Deferred};
 ghost use Rattle.resolver_encoding.specs.SoFar.{IsDeferral, IsIndexing, IsTakenOut, left_count, HasFired, HasMet, IsFiring, IsQuietAt, IsQuietUnder};
 ghost use Rattle.resolver_clause_store.specs.Caches.{IsTrueCache};
 ghost use Rattle.resolver_encoding.specs.Groups.{AreGroups};
-ghost use Rattle.resolver_encoding.specs.Led.{Brings, IsFired, NoneOwn};
 ghost use Rattle.resolver_encoding.specs.Refusals.{IsStop};
 
 use super::Encoding;
@@ -143,8 +142,6 @@ impl<N: Copy + Eq + Hash + Drop, S: Copy + Eq + Hash + Drop> Encoding<N, S> {
         ensures firing { OnOk result (IsFiring (D.universe provider.now) chosen.now.keys (notes_in self.old) (notes_in self.new)) }
         ensures quiet { OnOk result (IsQuietAt (D.universe provider.now) chosen.now.keys (notes_in self.new) number) }
         ensures fired { OnOk result (HasFired (notes_in self.old) (notes_in self.new) true) }
-        ensures brings { Brings (D.universe provider.now) (IsFired (D.universe provider.now) chosen.now.keys (notes_in self.old)) NoneOwn
-            (notes_in self.old) (notes_in self.new) }
         ensures refusal { IfErr result (IsStop (D.may_cancel provider.now) (IsFull (notes_in self.new))) }
     {
         match self.take_out(number) {
@@ -177,8 +174,6 @@ impl<N: Copy + Eq + Hash + Drop, S: Copy + Eq + Hash + Drop> Encoding<N, S> {
         ensures firing { OnOk result (IsFiring (D.universe provider.now) chosen.now.keys (notes_in self.old) (notes_in self.new)) }
         ensures quiet { OnOk result (IsQuietAt (D.universe provider.now) chosen.now.keys (notes_in self.new) number) }
         ensures fired { IfOk result (HasFired (notes_in self.old) (notes_in self.new)) }
-        ensures brings { Brings (D.universe provider.now) (IsFired (D.universe provider.now) chosen.now.keys (notes_in self.old)) NoneOwn
-            (notes_in self.old) (notes_in self.new) }
         ensures refusal { IfErr result (IsStop (D.may_cancel provider.now) (IsFull (notes_in self.new))) }
     {
         if !self.is_due(provider, cache, chosen, number)? {
@@ -204,8 +199,6 @@ impl<N: Copy + Eq + Hash + Drop, S: Copy + Eq + Hash + Drop> Encoding<N, S> {
         ensures firing { OnOk result (IsFiring (D.universe provider.now) chosen.now.keys (notes_in self.old) (notes_in self.new)) }
         ensures quiet { OnOk result (All (IsQuietAt (D.universe provider.now) chosen.now.keys (notes_in self.new)) numbers.now) }
         ensures fired { IfOk result (HasFired (notes_in self.old) (notes_in self.new)) }
-        ensures brings { Brings (D.universe provider.now) (IsFired (D.universe provider.now) chosen.now.keys (notes_in self.old)) NoneOwn
-            (notes_in self.old) (notes_in self.new) }
         ensures refusal { IfErr result (IsStop (D.may_cancel provider.now) (IsFull (notes_in self.new))) }
     {
         let mut any = false;
@@ -232,8 +225,6 @@ impl<N: Copy + Eq + Hash + Drop, S: Copy + Eq + Hash + Drop> Encoding<N, S> {
         ensures quiet { OnOk result (AreGroups (notes_in self.old).deferred_by_name →
             IsQuietUnder (D.universe provider.now) chosen.now.keys (notes_in self.new) ((D.universe provider.now).name solvable)) }
         ensures fired { IfOk result (HasFired (notes_in self.old) (notes_in self.new)) }
-        ensures brings { Brings (D.universe provider.now) (IsFired (D.universe provider.now) chosen.now.keys (notes_in self.old)) NoneOwn
-            (notes_in self.old) (notes_in self.new) }
         ensures refusal { IfErr result (IsStop (D.may_cancel provider.now) (IsFull (notes_in self.new))) }
     {
         let name = provider.solvable_name(solvable);
@@ -262,8 +253,6 @@ impl<N: Copy + Eq + Hash + Drop, S: Copy + Eq + Hash + Drop> Encoding<N, S> {
             All (λ s. IsQuietUnder (D.universe provider.now) chosen.now.keys (notes_in self.new) ((D.universe provider.now).name s))
             (drop from chosen.now.keys)) }
         ensures fired { IfOk result (HasFired (notes_in self.old) (notes_in self.new)) }
-        ensures brings { Brings (D.universe provider.now) (IsFired (D.universe provider.now) chosen.now.keys (notes_in self.old)) NoneOwn
-            (notes_in self.old) (notes_in self.new) }
         ensures refusal { IfErr result (IsStop (D.may_cancel provider.now) (IsFull (notes_in self.new))) }
     {
         let mut any = false;

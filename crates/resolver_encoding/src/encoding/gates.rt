@@ -1,13 +1,11 @@
 //! Gates: one list of candidates for all solvables that have the same requirement.
 
-ghost use Rattle.std.specs.Prelude.{◌≡◌, ◌⊎◌, ◌<◌, ◌^◌, All, Contains, IfErr, None, OnOk, ⊤};
+ghost use Rattle.std.specs.Prelude.{◌≡◌, ◌<◌, ◌^◌, All, Contains, IfErr, None, OnOk, ⊤};
 ghost use Rattle.resolver_clause_store.specs.Candidates.{requirement_candidates as candidates_of, version_sets};
 ghost use Rattle.resolver_clause_store.specs.declared.By.TheVariants.{Solvable as BySolvable};
 ghost use Rattle.resolver_clause_store.specs.declared.ClauseKind.TheVariants.{AnyOf as AnyOfKind};
 ghost use Rattle.resolver_clause_store.specs.declared.Origin.TheVariants.{Gate as GateOrigin};
 ghost use Rattle.resolver_encoding.specs.Encodings.{HasRequirement, IsFull, IsStep};
-ghost use Rattle.resolver_clause_store.specs.declared.Origin.TheVariants.{Solvable as SolvableOrigin};
-ghost use Rattle.resolver_encoding.specs.Led.{AddsOnly, IsCandidate};
 ghost use Rattle.resolver_encoding.specs.Refusals.{IsShortage};
 
 use super::Encoding;
@@ -36,8 +34,6 @@ impl<N: Copy + Eq + Hash + Drop, S: Copy + Eq + Hash + Drop> Encoding<N, S> {
         ensures room { KeepsRoom self.old self.new }
         ensures step { OnOk result (IsStep (D.universe provider.now) (λ root. ⊤) (notes_in self.old) (notes_in self.new)) }
         ensures gate { OnOk result (Contains (notes_in self.new).gates requirement) }
-        ensures adds { AddsOnly (λ o. (o ≡ GateOrigin requirement) ⊎ IsCandidate (D.universe provider.now) requirement o) (notes_in self.old)
-            (notes_in self.new) }
         ensures refusal { IfErr result (IsShortage (IsFull (notes_in self.new))) }
     {
         if is_among(&self.gates, &requirement) {
@@ -61,7 +57,6 @@ impl<N: Copy + Eq + Hash + Drop, S: Copy + Eq + Hash + Drop> Encoding<N, S> {
             (HasRequirement (D.universe provider.now) (BySolvable requirer) (record { condition = None; requirement = requirement })) (notes_in self.old)
             (notes_in self.new)) }
         ensures implied { OnOk result (Contains (notes_in self.new).kinds (AnyOfKind (GateOrigin requirement) requirer)) }
-        ensures adds { AddsOnly (λ o. (o ≡ GateOrigin requirement) ⊎ (o ≡ SolvableOrigin requirer)) (notes_in self.old) (notes_in self.new) }
         ensures refusal { IfErr result (IsShortage (IsFull (notes_in self.new))) }
     {
         self.add(ClauseKind::AnyOf {

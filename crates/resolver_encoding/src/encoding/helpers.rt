@@ -6,8 +6,6 @@ ghost use Rattle.resolver_clause_store.specs.Candidates.{matching};
 ghost use Rattle.resolver_clause_store.specs.declared.ClauseKind.TheVariants.{AnyOf as AnyOfKind};
 ghost use Rattle.resolver_clause_store.specs.declared.Origin.TheVariants.{ConditionHelper as Helper};
 ghost use Rattle.resolver_encoding.specs.Encodings.{IsFull, IsStep};
-ghost use Rattle.resolver_clause_store.specs.declared.VersionSetId.{VersionSetId as Id};
-ghost use Rattle.resolver_encoding.specs.Led.{AddsOnly, IsOfHelper};
 ghost use Rattle.resolver_encoding.specs.Refusals.{IsShortage, IsStop};
 
 use super::Encoding;
@@ -33,7 +31,6 @@ impl<N: Copy + Eq + Hash + Drop, S: Copy + Eq + Hash + Drop> Encoding<N, S> {
         ensures step { OnOk result (IsStep (D.universe provider.now) (λ root. ⊤) (notes_in self.old) (notes_in self.new)) }
         ensures follow { OnOk result (All (λ s. Contains (notes_in self.new).kinds (AnyOfKind (Helper version_set) s)) candidates.now) }
         ensures helped { OnOk result ((notes_in self.new).helped ≡ (notes_in self.old).helped) }
-        ensures adds { AddsOnly (IsOfHelper (D.universe provider.now) version_set) (notes_in self.old) (notes_in self.new) }
         ensures refusal { IfErr result (IsShortage (IsFull (notes_in self.new))) }
     {
         for candidate in candidates {
@@ -58,7 +55,6 @@ impl<N: Copy + Eq + Hash + Drop, S: Copy + Eq + Hash + Drop> Encoding<N, S> {
         ensures is_true { IsTrueCache (D.universe provider.now) cache.new }
         ensures step { OnOk result (IsStep (D.universe provider.now) (λ root. ⊤) (notes_in self.old) (notes_in self.new)) }
         ensures helped { OnOk result (Contains (notes_in self.new).helped version_set) }
-        ensures adds { AddsOnly (IsOfHelper (D.universe provider.now) version_set) (notes_in self.old) (notes_in self.new) }
         ensures refusal { IfErr result (IsStop (D.may_cancel provider.now) (IsFull (notes_in self.new))) }
     {
         if is_among(&self.helped, &version_set) {
@@ -83,8 +79,6 @@ impl<N: Copy + Eq + Hash + Drop, S: Copy + Eq + Hash + Drop> Encoding<N, S> {
         ensures is_true { IsTrueCache (D.universe provider.now) cache.new }
         ensures step { OnOk result (IsStep (D.universe provider.now) (λ root. ⊤) (notes_in self.old) (notes_in self.new)) }
         ensures helped { OnOk result (All (Contains (notes_in self.new).helped) disjunct.now) }
-        ensures adds { AddsOnly (λ o. (v : Id) × Contains disjunct.now v × IsOfHelper (D.universe provider.now) v o)
-            (notes_in self.old) (notes_in self.new) }
         ensures refusal { IfErr result (IsStop (D.may_cancel provider.now) (IsFull (notes_in self.new))) }
     {
         for version_set in disjunct {

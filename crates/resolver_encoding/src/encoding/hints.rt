@@ -8,10 +8,6 @@ ghost use Rattle.resolver_clause_store.specs.Universe.{Universe};
 ghost use Rattle.resolver_clause_store.specs.Formula.{clause_at};
 ghost use Rattle.resolver_encoding.specs.Encodings.{IsFull};
 ghost use Rattle.resolver_encoding.specs.Hints.{AreHintsRead, AreHintsReadTo, AreReadIfHinted, HintsAtNone, IsHinted, candidates_at, literals_at, stated_by};
-ghost use Rattle.resolver_clause_store.specs.Valid.{demands_of};
-ghost use Rattle.resolver_clause_store.specs.declared.By.TheVariants.{Solvable as BySolvable};
-ghost use Rattle.resolver_encoding.specs.Called.{IsDemanded};
-ghost use Rattle.resolver_encoding.specs.Led.{Brings, IsOwn, KeepsLed};
 ghost use Rattle.resolver_encoding.specs.Refusals.{IsStop};
 ghost use Rattle.resolver_encoding.specs.SoFar.{HasRead, IsHalfReading, IsHintedReading, IsMoreOrSame, IsReadingOf};
 
@@ -176,10 +172,6 @@ impl<N: Copy + Eq + Hash + Drop, S: Copy + Eq + Hash + Drop> Encoding<N, S> {
         ensures here { OnOk result (IsAvailable (D.universe provider.now) cache.old candidate → Contains (notes_in self.new).read candidate) }
         ensures only { OnOk result ((IsAvailable (D.universe provider.now) cache.old candidate → ⊥) → notes_in self.new ≡ notes_in self.old) }
         ensures more { OnOk result (IsMoreOrSame (notes_in self.old) (notes_in self.new)) }
-        ensures brings { Brings (D.universe provider.now)
-            (IsDemanded (D.universe provider.now) chosen.now.keys (demands_of ((D.universe provider.now).needs candidate)))
-            (IsOwn (D.universe provider.now) (BySolvable candidate) (demands_of ((D.universe provider.now).needs candidate))) (notes_in self.old)
-            (notes_in self.new) }
         ensures refusal { IfErr result (IsStop (D.may_cancel provider.now) (IsFull (notes_in self.new))) }
     {
         if !cache.are_dependencies_available_for(provider, candidate) {
@@ -212,10 +204,6 @@ impl<N: Copy + Eq + Hash + Drop, S: Copy + Eq + Hash + Drop> Encoding<N, S> {
         ensures here { OnOk result (IsHinted (D.universe provider.now) candidate → Contains (notes_in self.new).read candidate) }
         ensures hintless { IfOk result (λ next. IfSome next (HintsAtNone (D.universe provider.now))) }
         ensures more { OnOk result (IsMoreOrSame (notes_in self.old) (notes_in self.new)) }
-        ensures brings { Brings (D.universe provider.now)
-            (IsDemanded (D.universe provider.now) chosen.now.keys (demands_of ((D.universe provider.now).needs candidate)))
-            (IsOwn (D.universe provider.now) (BySolvable candidate) (demands_of ((D.universe provider.now).needs candidate))) (notes_in self.old)
-            (notes_in self.new) }
         ensures refusal { IfErr result (IsStop (D.may_cancel provider.now) (IsFull (notes_in self.new))) }
     {
         let name = provider.solvable_name(candidate);
@@ -253,7 +241,6 @@ impl<N: Copy + Eq + Hash + Drop, S: Copy + Eq + Hash + Drop> Encoding<N, S> {
         ensures reading { OnOk result (IsHintedReading (D.universe provider.now) chosen.now.keys place (notes_in self.old) (notes_in self.new)) }
         ensures here { OnOk result (AreReadIfHinted (D.universe provider.now) (notes_in self.new) (candidates_at (notes_in self.new) place)) }
         ensures more { OnOk result (IsMoreOrSame (notes_in self.old) (notes_in self.new)) }
-        ensures led { KeepsLed (D.universe provider.now) chosen.now.keys (notes_in self.old) (notes_in self.new) }
         ensures refusal { IfErr result (IsStop (D.may_cancel provider.now) (IsFull (notes_in self.new))) }
     {
         let mut hintless = None;
@@ -283,7 +270,6 @@ impl<N: Copy + Eq + Hash + Drop, S: Copy + Eq + Hash + Drop> Encoding<N, S> {
         ensures reading { OnOk result (IsHintedReading (D.universe provider.now) chosen.now.keys place (notes_in self.old) (notes_in self.new)) }
         ensures here { OnOk result (AreReadIfHinted (D.universe provider.now) (notes_in self.new) (candidates_at (notes_in self.new) place)) }
         ensures more { OnOk result (IsMoreOrSame (notes_in self.old) (notes_in self.new)) }
-        ensures led { KeepsLed (D.universe provider.now) chosen.now.keys (notes_in self.old) (notes_in self.new) }
         ensures refusal { IfErr result (IsStop (D.may_cancel provider.now) (IsFull (notes_in self.new))) }
     {
         let list = replace(&mut self.spare, Vec::new(self.alloc));
@@ -314,7 +300,6 @@ impl<N: Copy + Eq + Hash + Drop, S: Copy + Eq + Hash + Drop> Encoding<N, S> {
         ensures here { OnOk result (AreHintsReadTo (D.universe provider.now) from until (notes_in self.new)) }
         ensures any_new { IfOk result (HasRead (notes_in self.old) (notes_in self.new)) }
         ensures fit { OnOk result (length (notes_in self.new).read ≤ (notes_in self.new).variable_limit) }
-        ensures led { KeepsLed (D.universe provider.now) chosen.now.keys (notes_in self.old) (notes_in self.new) }
         ensures refusal { IfErr result (IsStop (D.may_cancel provider.now) (IsFull (notes_in self.new))) }
     {
         let before = self.read.len();
@@ -350,7 +335,6 @@ impl<N: Copy + Eq + Hash + Drop, S: Copy + Eq + Hash + Drop> Encoding<N, S> {
         ensures here { OnOk result (AreHintsRead (D.universe provider.now) from (notes_in self.new)) }
         ensures any_new { IfOk result (HasRead (notes_in self.old) (notes_in self.new)) }
         ensures fit { OnOk result (length (notes_in self.new).read ≤ (notes_in self.new).variable_limit) }
-        ensures led { KeepsLed (D.universe provider.now) chosen.now.keys (notes_in self.old) (notes_in self.new) }
         ensures refusal { IfErr result (IsStop (D.may_cancel provider.now) (IsFull (notes_in self.new))) }
     {
         let mut place = from;

@@ -6,7 +6,6 @@ ghost use Rattle.resolver_clause_store.specs.Candidates.{version_sets};
 ghost use Rattle.resolver_clause_store.specs.declared.ClauseKind.TheVariants.{Excluded as ExcludedKind, Lock as LockKind};
 ghost use Rattle.resolver_encoding.specs.Called.{IsAsking, IsNamedBy};
 ghost use Rattle.resolver_encoding.specs.Encodings.{Doing, IsAskStep, IsFull, IsLockRead, IsStepWhile, KeepsLimits, asking_for};
-ghost use Rattle.resolver_encoding.specs.Led.{AddsOnly, IsBarred};
 ghost use Rattle.resolver_encoding.specs.Refusals.{IsShortage, IsStop};
 ghost use Rattle.resolver_encoding.specs.Turns.{AddsPlainly, AsksOnly};
 
@@ -39,7 +38,6 @@ impl<N: Copy + Eq + Hash + Drop, S: Copy + Eq + Hash + Drop> Encoding<N, S> {
         ensures forbidden { OnOk result
             (candidate ≢ locked → (Contains (notes_in self.old).exempt candidate → ⊥) → Contains (notes_in self.new).kinds (LockKind locked candidate)) }
         ensures asked { OnOk result ((notes_in self.new).asked ≡ (notes_in self.old).asked) }
-        ensures adds { AddsOnly (IsBarred (D.universe provider.now) (IsAsking name)) (notes_in self.old) (notes_in self.new) }
         ensures refusal { IfErr result (IsShortage (IsFull (notes_in self.new))) }
     {
         if candidate == locked {
@@ -71,7 +69,6 @@ impl<N: Copy + Eq + Hash + Drop, S: Copy + Eq + Hash + Drop> Encoding<N, S> {
         ensures plain { OnOk result (AddsPlainly (notes_in self.old) (notes_in self.new)) }
         ensures read { OnOk result (IsLockRead (notes_in self.new).kinds (notes_in self.old).exempt locked listed.now) }
         ensures asked { OnOk result ((notes_in self.new).asked ≡ (notes_in self.old).asked) }
-        ensures adds { AddsOnly (IsBarred (D.universe provider.now) (IsAsking name)) (notes_in self.old) (notes_in self.new) }
         ensures refusal { IfErr result (IsShortage (IsFull (notes_in self.new))) }
     {
         let Some(locked) = locked else {
@@ -101,7 +98,6 @@ impl<N: Copy + Eq + Hash + Drop, S: Copy + Eq + Hash + Drop> Encoding<N, S> {
         ensures forbidden { OnOk result
             ((Contains (notes_in self.old).exempt solvable → ⊥) → Contains (notes_in self.new).kinds (ExcludedKind solvable reason)) }
         ensures asked { OnOk result ((notes_in self.new).asked ≡ (notes_in self.old).asked) }
-        ensures adds { AddsOnly (IsBarred (D.universe provider.now) (IsAsking name)) (notes_in self.old) (notes_in self.new) }
         ensures refusal { IfErr result (IsShortage (IsFull (notes_in self.new))) }
     {
         if is_among(&self.exempt, &solvable) {
@@ -126,7 +122,6 @@ impl<N: Copy + Eq + Hash + Drop, S: Copy + Eq + Hash + Drop> Encoding<N, S> {
         ensures read { OnOk result (All (λ e.
             (Contains (notes_in self.old).exempt e.0 → ⊥) → Contains (notes_in self.new).kinds (ExcludedKind e.0 e.1)) excluded.now) }
         ensures asked { OnOk result ((notes_in self.new).asked ≡ (notes_in self.old).asked) }
-        ensures adds { AddsOnly (IsBarred (D.universe provider.now) (IsAsking name)) (notes_in self.old) (notes_in self.new) }
         ensures refusal { IfErr result (IsShortage (IsFull (notes_in self.new))) }
     {
         for (solvable, reason) in excluded {
@@ -153,7 +148,6 @@ impl<N: Copy + Eq + Hash + Drop, S: Copy + Eq + Hash + Drop> Encoding<N, S> {
         ensures step { OnOk result (IsAskStep (D.universe provider.now) (IsAsking name) (λ root. ⊤) (notes_in self.old) (notes_in self.new)) }
         ensures alone { OnOk result (AsksOnly (D.universe provider.now) name (notes_in self.old) (notes_in self.new)) }
         ensures asked { OnOk result (Contains (notes_in self.new).asked name) }
-        ensures adds { AddsOnly (IsBarred (D.universe provider.now) (IsAsking name)) (notes_in self.old) (notes_in self.new) }
         ensures limits { KeepsLimits (notes_in self.old) (notes_in self.new) }
         ensures refusal { IfErr result (IsStop (D.may_cancel provider.now) (IsFull (notes_in self.new))) }
     {
@@ -182,7 +176,6 @@ impl<N: Copy + Eq + Hash + Drop, S: Copy + Eq + Hash + Drop> Encoding<N, S> {
         ensures step { OnOk result (IsAskStep (D.universe provider.now) (IsNamedBy (D.universe provider.now) named.now) (λ root. ⊤) (notes_in self.old)
             (notes_in self.new)) }
         ensures asked { OnOk result (All (λ v. Contains (notes_in self.new).asked ((D.universe provider.now).version_set_name v)) named.now) }
-        ensures adds { AddsOnly (IsBarred (D.universe provider.now) (IsNamedBy (D.universe provider.now) named.now)) (notes_in self.old) (notes_in self.new) }
         ensures refusal { IfErr result (IsStop (D.may_cancel provider.now) (IsFull (notes_in self.new))) }
     {
         for version_set in named {
@@ -206,9 +199,6 @@ impl<N: Copy + Eq + Hash + Drop, S: Copy + Eq + Hash + Drop> Encoding<N, S> {
             (IsNamedBy (D.universe provider.now) (version_sets (D.universe provider.now) requirement)) (λ root. ⊤) (notes_in self.old) (notes_in self.new)) }
         ensures asked { OnOk result (All (λ v. Contains (notes_in self.new).asked ((D.universe provider.now).version_set_name v))
             (version_sets (D.universe provider.now) requirement)) }
-        ensures adds { AddsOnly
-            (IsBarred (D.universe provider.now) (IsNamedBy (D.universe provider.now) (version_sets (D.universe provider.now) requirement)))
-            (notes_in self.old) (notes_in self.new) }
         ensures refusal { IfErr result (IsStop (D.may_cancel provider.now) (IsFull (notes_in self.new))) }
     {
         match requirement {

@@ -8,13 +8,12 @@ ghost use Rattle.resolver_clause_store.specs.Valid.{demands_of};
 ghost use Rattle.resolver_clause_store.specs.declared.By.TheVariants.{Solvable as BySolvable};
 ghost use Rattle.resolver_clause_store.specs.declared.ClauseKind.TheVariants.{Excluded as ExcludedKind};
 ghost use Rattle.resolver_clause_store.specs.declared.ConditionalRequirement.{ConditionalRequirement};
-ghost use Rattle.resolver_clause_store.specs.declared.Origin.TheVariants.{Root as RootOrigin, Solvable as SolvableOrigin};
+ghost use Rattle.resolver_clause_store.specs.declared.Origin.TheVariants.{Solvable as SolvableOrigin};
 ghost use Rattle.resolver_clause_store.specs.TrueRules.{demands_by};
 ghost use Rattle.resolver_encoding.specs.Called.{AreAsked, IsCalledByEach, IsCalledFor, IsDemanded, IsNamedBy, IsPlainlyNamed};
 ghost use Rattle.resolver_encoding.specs.Encodings.{AreDemandsRead, AreNeedsRead, HasRequirement, HasConstraint, IsAskStep, IsConstraintRead, IsEncoding};
 ghost use Rattle.resolver_encoding.specs.Encodings.{IsEncodingOf, IsFull, IsLeft, IsReadStep, IsStep, IsUnmet, IsUnread, KeepsLimits};
 ghost use Rattle.resolver_encoding.specs.Hints.{AreHintsRead, IsListedFrom};
-ghost use Rattle.resolver_encoding.specs.Led.{AddsOnly, AreLed, Brings, IsBarred, IsOwn, KeepsLed, with_constraints, with_requirements};
 ghost use Rattle.resolver_encoding.specs.Reach.{AreNear};
 ghost use Rattle.resolver_encoding.specs.ReadState.{IsReadRequirement};
 ghost use Rattle.resolver_encoding.specs.Refusals.{IsShortage, IsStop};
@@ -26,7 +25,7 @@ use crate::progress::Progress;
 use indexmap::IndexSet;
 use resolver_clause_store::{
     By, Cache, ClauseKind, ConditionalRequirement, Dependencies, DependencyProvider, Exhausted,
-    Interner, Interrupted, StringId, VersionSetId, append, is_among,
+    Interner, Interrupted, Origin, StringId, VersionSetId, append, is_among,
 };
 use std::hash::Hash;
 
@@ -58,7 +57,6 @@ impl<N: Copy + Eq + Hash + Drop, S: Copy + Eq + Hash + Drop> Encoding<N, S> {
         ensures room { KeepsRoom self.old self.new }
         ensures step { OnOk result (IsStep (D.universe provider.now) (λ root. ⊤) (notes_in self.old) (notes_in self.new)) }
         ensures forbidden { OnOk result (Contains (notes_in self.new).kinds (ExcludedKind solvable reason)) }
-        ensures adds { AddsOnly (λ o. o ≡ SolvableOrigin solvable) (notes_in self.old) (notes_in self.new) }
         ensures refusal { IfErr result (IsShortage (IsFull (notes_in self.new))) }
     {
         self.add(ClauseKind::Excluded { solvable, reason })?;
@@ -78,8 +76,6 @@ impl<N: Copy + Eq + Hash + Drop, S: Copy + Eq + Hash + Drop> Encoding<N, S> {
         ensures is_true { IsTrueCache (D.universe provider.now) cache.new }
         ensures step { OnOk result (IsAskStep (D.universe provider.now) (IsPlainlyNamed (D.universe provider.now) requirement) (λ root. ⊤) (notes_in self.old)
             (notes_in self.new)) }
-        ensures adds { AddsOnly (IsBarred (D.universe provider.now) (IsPlainlyNamed (D.universe provider.now) requirement)) (notes_in self.old)
-            (notes_in self.new) }
         ensures refusal { IfErr result (IsStop (D.may_cancel provider.now) (IsFull (notes_in self.new))) }
     {
         match requirement.condition {
@@ -105,10 +101,6 @@ impl<N: Copy + Eq + Hash + Drop, S: Copy + Eq + Hash + Drop> Encoding<N, S> {
         ensures step { OnOk result (IsAskStep (D.universe provider.now) (λ n.
             (r : ConditionalRequirement) × Contains requirements.now r × IsPlainlyNamed (D.universe provider.now) r n) (λ root. ⊤) (notes_in self.old)
             (notes_in self.new)) }
-        ensures adds { AddsOnly
-            (IsBarred (D.universe provider.now)
-            (λ n. (r : ConditionalRequirement) × Contains requirements.now r × IsPlainlyNamed (D.universe provider.now) r n))
-            (notes_in self.old) (notes_in self.new) }
         ensures refusal { IfErr result (IsStop (D.may_cancel provider.now) (IsFull (notes_in self.new))) }
     {
         for requirement in requirements {
@@ -137,8 +129,6 @@ impl<N: Copy + Eq + Hash + Drop, S: Copy + Eq + Hash + Drop> Encoding<N, S> {
             All (λ r. HasRequirement (D.universe provider.now) by r root) requirements.now) (notes_in self.old) (notes_in self.new)) }
         ensures read { OnOk result (All
             (IsReadRequirement (D.universe provider.now) (notes_in self.new).kinds (IsLeft (notes_in self.new)) by) requirements.now) }
-        ensures brings { Brings (D.universe provider.now) (IsCalledByEach (D.universe provider.now) chosen.now.keys requirements.now)
-            (IsOwn (D.universe provider.now) by (with_requirements requirements.now)) (notes_in self.old) (notes_in self.new) }
         ensures refusal { IfErr result (IsStop (D.may_cancel provider.now) (IsFull (notes_in self.new))) }
     {
         for requirement in requirements {
@@ -165,8 +155,6 @@ impl<N: Copy + Eq + Hash + Drop, S: Copy + Eq + Hash + Drop> Encoding<N, S> {
             All (λ v. HasConstraint (D.universe provider.now) by v root) constraints.now) (notes_in self.old) (notes_in self.new)) }
         ensures read { OnOk result (All (IsConstraintRead (D.universe provider.now) (notes_in self.new).kinds by) constraints.now) }
         ensures asked { OnOk result (All (λ v. Contains (notes_in self.new).asked ((D.universe provider.now).version_set_name v)) constraints.now) }
-        ensures brings { Brings (D.universe provider.now) (IsNamedBy (D.universe provider.now) constraints.now)
-            (IsOwn (D.universe provider.now) by (with_constraints constraints.now)) (notes_in self.old) (notes_in self.new) }
         ensures refusal { IfErr result (IsStop (D.may_cancel provider.now) (IsFull (notes_in self.new))) }
     {
         for version_set in constraints {
@@ -199,10 +187,6 @@ impl<N: Copy + Eq + Hash + Drop, S: Copy + Eq + Hash + Drop> Encoding<N, S> {
             (notes_in self.new)) }
         ensures read { OnOk result (AreDemandsRead (D.universe provider.now) (notes_in self.new) by
             (record { requirements = requirements.now; constraints = constraints.now })) }
-        ensures brings { Brings (D.universe provider.now)
-            (IsDemanded (D.universe provider.now) chosen.now.keys (record { requirements = requirements.now; constraints = constraints.now }))
-            (IsOwn (D.universe provider.now) by (record { requirements = requirements.now; constraints = constraints.now })) (notes_in self.old)
-            (notes_in self.new) }
         ensures refusal { IfErr result (IsStop (D.may_cancel provider.now) (IsFull (notes_in self.new))) }
     {
         self.ask_plain_each(provider, cache, requirements)?;
@@ -229,10 +213,6 @@ impl<N: Copy + Eq + Hash + Drop, S: Copy + Eq + Hash + Drop> Encoding<N, S> {
             (IsDemanded (D.universe provider.now) chosen.now.keys (demands_of ((D.universe provider.now).needs solvable))) (λ root. ⊤) (notes_in self.old)
             (notes_in self.new)) }
         ensures read { OnOk result (AreNeedsRead (D.universe provider.now) (notes_in self.new) solvable ((D.universe provider.now).needs solvable)) }
-        ensures brings { Brings (D.universe provider.now)
-            (IsDemanded (D.universe provider.now) chosen.now.keys (demands_of ((D.universe provider.now).needs solvable)))
-            (IsOwn (D.universe provider.now) (BySolvable solvable) (demands_of ((D.universe provider.now).needs solvable))) (notes_in self.old)
-            (notes_in self.new) }
         ensures refusal { IfErr result (IsStop (D.may_cancel provider.now) (IsFull (notes_in self.new))) }
     {
         cache.fetch_dependencies(provider, solvable)?;
@@ -268,10 +248,6 @@ impl<N: Copy + Eq + Hash + Drop, S: Copy + Eq + Hash + Drop> Encoding<N, S> {
         ensures reading { OnOk result (IsReadingOf (D.universe provider.now) chosen.now.keys (λ s. solvable ≡ s) (notes_in self.old) (notes_in self.new)) }
         ensures here { OnOk result (Contains (notes_in self.new).read solvable) }
         ensures more { OnOk result (IsMoreOrSame (notes_in self.old) (notes_in self.new)) }
-        ensures brings { Brings (D.universe provider.now)
-            (IsDemanded (D.universe provider.now) chosen.now.keys (demands_of ((D.universe provider.now).needs solvable)))
-            (IsOwn (D.universe provider.now) (BySolvable solvable) (demands_of ((D.universe provider.now).needs solvable))) (notes_in self.old)
-            (notes_in self.new) }
         ensures refusal { IfErr result (IsStop (D.may_cancel provider.now) (IsFull (notes_in self.new))) }
     {
         if is_among(&self.read, &solvable) {
@@ -303,7 +279,6 @@ impl<N: Copy + Eq + Hash + Drop, S: Copy + Eq + Hash + Drop> Encoding<N, S> {
         ensures any_new { IfOk result (HasRead (notes_in self.old) (notes_in self.new)) }
         ensures fit { OnOk result (((s : S) → Contains (notes_in self.new).read s → Contains (notes_in self.new).origins (SolvableOrigin s)) →
             length (notes_in self.new).read ≤ length (notes_in self.new).origins) }
-        ensures led { KeepsLed (D.universe provider.now) chosen.now.keys (notes_in self.old) (notes_in self.new) }
         ensures refusal { IfErr result (IsStop (D.may_cancel provider.now) (IsFull (notes_in self.new))) }
     {
         let before = self.read.len();
@@ -328,9 +303,9 @@ impl<N: Copy + Eq + Hash + Drop, S: Copy + Eq + Hash + Drop> Encoding<N, S> {
         ensures installed { OnOk result ((root : Demands) → IsEncoding (D.universe provider.now) root (notes_in self.new)) }
         ensures nothing { OnOk result (IsBare (notes_in self.new)) }
         ensures exempt { OnOk result ((notes_in self.new).exempt ≡ (notes_in self.old).exempt) }
-        ensures adds { AddsOnly (λ o. o ≡ RootOrigin) (notes_in self.old) (notes_in self.new) }
         ensures refusal { IfErr result (IsShortage (IsFull (notes_in self.new))) }
     {
+        self.table.variables.intern(Origin::Root)?;
         self.add(ClauseKind::InstallRoot)?;
         Ok(())
     }
@@ -362,8 +337,6 @@ impl<N: Copy + Eq + Hash + Drop, S: Copy + Eq + Hash + Drop> Encoding<N, S> {
         ensures reads { OnOk result ((s : S) → Contains (notes_in self.new).read s → IsListedFrom (notes_in self.new) 0 s) }
         ensures hinted { OnOk result (AreHintsRead (D.universe provider.now) 0 (notes_in self.new)) }
         ensures exempt { OnOk result ((notes_in self.new).exempt ≡ (notes_in self.old).exempt) }
-        ensures led { (seeds : List S) (packages : List N) → AreLed (D.universe provider.now)
-            (record { requirements = requirements.now; constraints = constraints.now }) seeds packages (notes_in self.new) }
         ensures limits { KeepsLimits (notes_in self.old) (notes_in self.new) }
         ensures refusal { IfErr result (IsStop (D.may_cancel provider.now) (IsFull (notes_in self.new))) }
     {
@@ -406,10 +379,6 @@ impl<N: Copy + Eq + Hash + Drop, S: Copy + Eq + Hash + Drop> Encoding<N, S> {
         ensures more { OnOk result (IsReadMore (D.universe provider.now) chosen.now.keys (notes_in self.old) (notes_in self.new)) }
         ensures progress { IfOk result (IsProgress (notes_in self.old) (notes_in self.new)) }
         ensures fit { OnOk result (length (notes_in self.new).read ≤ (notes_in self.new).variable_limit) }
-        ensures led { (root : Demands) (seeds : List S) (packages : List N) → IsReadSoFar (D.universe provider.now) root (take from chosen.now.keys)
-            (notes_in self.old) → AreNear (D.universe provider.now) root seeds packages (notes_in self.old) → All
-            (IsNear (D.universe provider.now) root seeds) chosen.now.keys → AreLed (D.universe provider.now) root seeds packages (notes_in self.old) →
-            AreLed (D.universe provider.now) root seeds packages (notes_in self.new) }
         ensures limits { KeepsLimits (notes_in self.old) (notes_in self.new) }
         ensures refusal { IfErr result (IsStop (D.may_cancel provider.now) (IsFull (notes_in self.new))) }
     {

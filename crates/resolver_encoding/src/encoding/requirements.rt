@@ -1,18 +1,16 @@
 //! Clauses of requirements.
 
-ghost use Rattle.std.specs.Prelude.{◌≡◌, ◌⊎◌, ◌<◌, ◌^◌, [], ◌∷◌, ◌++◌, All, Contains, IfErr, IfOk, IfSome, None, OnOk, length, map, ⊤};
+ghost use Rattle.std.specs.Prelude.{◌≡◌, ◌<◌, ◌^◌, [], All, Contains, IfErr, IfOk, IfSome, None, OnOk, map, ⊤};
 ghost use Rattle.resolver_clause_store.specs.Caches.{IsTrueCache};
 ghost use Rattle.resolver_clause_store.specs.Candidates.{requirement_candidates as candidates_of, version_sets};
 ghost use Rattle.resolver_clause_store.specs.Variables.{AreDistinct};
 ghost use Rattle.resolver_clause_store.specs.declared.By.TheVariants.{Solvable as BySolvable};
 ghost use Rattle.resolver_clause_store.specs.declared.ClauseKind.TheVariants.{Requires as RequiresKind};
 ghost use Rattle.resolver_encoding.specs.Called.{IsCalledBy, IsWantedBy};
-ghost use Rattle.resolver_encoding.specs.Encodings.{AreDisjuncts, HasRequirement, IsAskStep, IsDisjunctOf, IsDisjunctRead, IsEncoding, IsEncodingOf};
+ghost use Rattle.resolver_encoding.specs.Encodings.{AreDisjuncts, HasRequirement, IsAskStep, IsDisjunctOf, IsDisjunctRead, IsEncodingOf};
 ghost use Rattle.resolver_encoding.specs.Encodings.{IsFull, IsLeft, IsReadStep, IsStep, IsTrueUnder, IsUnmet};
-ghost use Rattle.resolver_clause_store.specs.Universe.{Demands};
-ghost use Rattle.resolver_encoding.specs.Led.{AddsOnly, Brings, IsCandidate, IsHelped, IsOwn, NoneOwn, with_requirements};
 ghost use Rattle.resolver_encoding.specs.ReadState.{HasClause, IsReadRequirement};
-ghost use Rattle.resolver_encoding.specs.Refusals.{IsShortage, IsStop};
+ghost use Rattle.resolver_encoding.specs.Refusals.{IsStop};
 
 use super::Encoding;
 use crate::choices::{Choices, choices_of};
@@ -69,8 +67,6 @@ impl<N: Copy + Eq + Hash + Drop, S: Copy + Eq + Hash + Drop> Encoding<N, S> {
         ensures step { OnOk result (IsStep (D.universe provider.now) (IsTrueUnder (D.universe provider.now) by disjunct.items requirement) (notes_in self.old)
             (notes_in self.new)) }
         ensures read { OnOk result (Contains (notes_in self.new).kinds (RequiresKind by disjunct.items requirement)) }
-        ensures adds { AddsOnly (λ o. IsHelped (D.universe provider.now) by disjunct.items o ⊎ IsCandidate (D.universe provider.now) requirement o)
-            (notes_in self.old) (notes_in self.new) }
         ensures refusal { IfErr result (IsStop (D.may_cancel provider.now) (IsFull (notes_in self.new))) }
     {
         self.help_each(provider, cache, &disjunct)?;
@@ -101,8 +97,6 @@ impl<N: Copy + Eq + Hash + Drop, S: Copy + Eq + Hash + Drop> Encoding<N, S> {
         ensures asked { OnOk result (All (λ v. Contains (notes_in self.new).asked ((D.universe provider.now).version_set_name v))
             (version_sets (D.universe provider.now) requirement)) }
         ensures seen { IfOk result (λ choices. All (Contains (notes_in self.new).seen) choices.candidates.items) }
-        ensures brings { (root : Demands) → IsEncoding (D.universe provider.now) root (notes_in self.old) → Brings (D.universe provider.now)
-            (IsWantedBy (D.universe provider.now) requirement) NoneOwn (notes_in self.old) (notes_in self.new) }
         ensures refusal { IfErr result (IsStop (D.may_cancel provider.now) (IsFull (notes_in self.new))) }
     {
         self.ask_named(provider, cache, requirement)?;
@@ -129,9 +123,6 @@ impl<N: Copy + Eq + Hash + Drop, S: Copy + Eq + Hash + Drop> Encoding<N, S> {
         ensures step { OnOk result (IsAskStep (D.universe provider.now) (IsWantedBy (D.universe provider.now) requirement)
             (IsTrueUnder (D.universe provider.now) by disjunct.items requirement) (notes_in self.old) (notes_in self.new)) }
         ensures read { OnOk result (HasClause (notes_in self.new).kinds by disjunct.items requirement) }
-        ensures brings { (root : Demands) → IsEncoding (D.universe provider.now) root (notes_in self.old) → Brings (D.universe provider.now)
-            (IsWantedBy (D.universe provider.now) requirement) (IsHelped (D.universe provider.now) by disjunct.items) (notes_in self.old)
-            (notes_in self.new) }
         ensures refusal { IfErr result (IsStop (D.may_cancel provider.now) (IsFull (notes_in self.new))) }
     {
         let choices = self.choose(provider, cache, requirement)?;
@@ -160,9 +151,6 @@ impl<N: Copy + Eq + Hash + Drop, S: Copy + Eq + Hash + Drop> Encoding<N, S> {
             (IsCalledBy (D.universe provider.now) chosen.now.keys requirement) (HasRequirement (D.universe provider.now) by requirement) (notes_in self.old)
             (notes_in self.new)) }
         ensures read { OnOk result (IsDisjunctRead (notes_in self.new) by requirement.requirement disjunct.now) }
-        ensures brings { (root : Demands) → IsEncoding (D.universe provider.now) root (notes_in self.old) → Brings (D.universe provider.now)
-            (IsCalledBy (D.universe provider.now) chosen.now.keys requirement)
-            (IsOwn (D.universe provider.now) by (with_requirements (requirement ∷ []))) (notes_in self.old) (notes_in self.new) }
         ensures refusal { IfErr result (IsStop (D.may_cancel provider.now) (IsFull (notes_in self.new))) }
     {
         let each_once = without_repeats(self.alloc, disjunct)?;
@@ -194,9 +182,6 @@ impl<N: Copy + Eq + Hash + Drop, S: Copy + Eq + Hash + Drop> Encoding<N, S> {
             (IsCalledBy (D.universe provider.now) chosen.now.keys requirement) (HasRequirement (D.universe provider.now) by requirement) (notes_in self.old)
             (notes_in self.new)) }
         ensures read { OnOk result (IsReadRequirement (D.universe provider.now) (notes_in self.new).kinds (IsLeft (notes_in self.new)) by requirement) }
-        ensures brings { (root : Demands) → HasRequirement (D.universe provider.now) by requirement root → IsEncoding (D.universe provider.now) root
-            (notes_in self.old) → Brings (D.universe provider.now) (IsCalledBy (D.universe provider.now) chosen.now.keys requirement)
-            (IsOwn (D.universe provider.now) by (with_requirements (requirement ∷ []))) (notes_in self.old) (notes_in self.new) }
         ensures refusal { IfErr result (IsStop (D.may_cancel provider.now) (IsFull (notes_in self.new))) }
     {
         for disjunct in disjuncts {
@@ -222,9 +207,6 @@ impl<N: Copy + Eq + Hash + Drop, S: Copy + Eq + Hash + Drop> Encoding<N, S> {
             (IsCalledBy (D.universe provider.now) chosen.now.keys requirement) (HasRequirement (D.universe provider.now) by requirement) (notes_in self.old)
             (notes_in self.new)) }
         ensures read { OnOk result (IsReadRequirement (D.universe provider.now) (notes_in self.new).kinds (IsLeft (notes_in self.new)) by requirement) }
-        ensures brings { (root : Demands) → HasRequirement (D.universe provider.now) by requirement root → IsEncoding (D.universe provider.now) root
-            (notes_in self.old) → Brings (D.universe provider.now) (IsCalledBy (D.universe provider.now) chosen.now.keys requirement)
-            (IsOwn (D.universe provider.now) by (with_requirements (requirement ∷ []))) (notes_in self.old) (notes_in self.new) }
         ensures refusal { IfErr result (IsStop (D.may_cancel provider.now) (IsFull (notes_in self.new))) }
     {
         let disjuncts = disjuncts_of(self.alloc, provider, requirement.condition)?;
@@ -250,9 +232,6 @@ impl<N: Copy + Eq + Hash + Drop, S: Copy + Eq + Hash + Drop> Encoding<N, S> {
             (HasRequirement (D.universe provider.now) (BySolvable requirer) (record { condition = None; requirement = requirement })) (notes_in self.old)
             (notes_in self.new)) }
         ensures read { OnOk result (HasClause (notes_in self.new).kinds (BySolvable requirer) [] requirement) }
-        ensures brings { Brings (D.universe provider.now) (IsWantedBy (D.universe provider.now) requirement)
-            (IsOwn (D.universe provider.now) (BySolvable requirer) (with_requirements (record { condition = None; requirement = requirement } ∷ [])))
-            (notes_in self.old) (notes_in self.new) }
         ensures refusal { IfErr result (IsStop (D.may_cancel provider.now) (IsFull (notes_in self.new))) }
     {
         if is_among(&self.gates, &requirement) {
@@ -291,8 +270,6 @@ impl<N: Copy + Eq + Hash + Drop, S: Copy + Eq + Hash + Drop> Encoding<N, S> {
             (IsCalledBy (D.universe provider.now) chosen.now.keys requirement) (HasRequirement (D.universe provider.now) by requirement) (notes_in self.old)
             (notes_in self.new)) }
         ensures read { OnOk result (IsReadRequirement (D.universe provider.now) (notes_in self.new).kinds (IsLeft (notes_in self.new)) by requirement) }
-        ensures brings { Brings (D.universe provider.now) (IsCalledBy (D.universe provider.now) chosen.now.keys requirement)
-            (IsOwn (D.universe provider.now) by (with_requirements (requirement ∷ []))) (notes_in self.old) (notes_in self.new) }
         ensures refusal { IfErr result (IsStop (D.may_cancel provider.now) (IsFull (notes_in self.new))) }
     {
         match plain_requirer(by, requirement.condition) {

@@ -5,10 +5,7 @@ ghost use Rattle.resolver_clause_store.specs.Caches.{IsTrueCache};
 ghost use Rattle.resolver_clause_store.specs.SoftRun.{Exempts};
 ghost use Rattle.resolver_clause_store.specs.declared.ClauseKind.TheVariants.{Excluded as ExcludedKind, Lock as LockKind};
 ghost use Rattle.resolver_clause_store.specs.declared.Origin.TheVariants.{Solvable as SolvableOrigin};
-ghost use Rattle.resolver_encoding.specs.Encodings.{IsEncoding, IsFollowed, IsFull, IsStepWhile, KeepsLimits, owing_for};
-ghost use Rattle.resolver_clause_store.specs.Universe.{Demands};
-ghost use Rattle.resolver_encoding.specs.Called.{IsAsking, IsSeeing};
-ghost use Rattle.resolver_encoding.specs.Led.{AddsOnly, Brings, IsBarred, NoneOwn};
+ghost use Rattle.resolver_encoding.specs.Encodings.{IsFull, IsStepWhile, KeepsLimits, owing_for};
 ghost use Rattle.resolver_encoding.specs.Refusals.{IsShortage, IsStop};
 ghost use Rattle.resolver_encoding.specs.Turns.{AddsPlainly, IsRestored, IsRegistered, IsTurnEnd, StaysRead};
 
@@ -41,8 +38,6 @@ impl<N: Copy + Eq + Hash + Drop, S: Copy + Eq + Hash + Drop> Encoding<N, S> {
         ensures bounded { IsBounded self.new }
         ensures registered { OnOk result (IsRegistered (D.universe provider.now) solvable (notes_in self.old) (notes_in self.new)) }
         ensures variable { IfOk result (λ v. slice_get (notes_in self.new).origins v ≡ Some (SolvableOrigin solvable)) }
-        ensures brings { (root : Demands) → IsEncoding (D.universe provider.now) root (notes_in self.old) → Brings (D.universe provider.now)
-            (IsSeeing solvable) NoneOwn (notes_in self.old) (notes_in self.new) }
         ensures limits { KeepsLimits (notes_in self.old) (notes_in self.new) }
         ensures refusal { IfErr result (IsShortage (IsFull (notes_in self.new))) }
     {
@@ -98,7 +93,6 @@ impl<N: Copy + Eq + Hash + Drop, S: Copy + Eq + Hash + Drop> Encoding<N, S> {
         ensures plain { OnOk result (AddsPlainly (notes_in self.old) (notes_in self.new)) }
         ensures restored { OnOk result ((t : S) → locked ≡ Some t → Contains listed.now solvable → solvable ≢ t →
             (Contains (notes_in self.old).exempt solvable → ⊥) → Contains (notes_in self.new).kinds (LockKind t solvable)) }
-        ensures adds { AddsOnly (IsBarred (D.universe provider.now) (IsAsking name)) (notes_in self.old) (notes_in self.new) }
         ensures refusal { IfErr result (IsShortage (IsFull (notes_in self.new))) }
     {
         let Some(locked) = locked else {
@@ -129,7 +123,6 @@ impl<N: Copy + Eq + Hash + Drop, S: Copy + Eq + Hash + Drop> Encoding<N, S> {
         ensures plain { OnOk result (AddsPlainly (notes_in self.old) (notes_in self.new)) }
         ensures restored { OnOk result (excluded ≡ solvable → (Contains (notes_in self.old).exempt solvable → ⊥) →
             Contains (notes_in self.new).kinds (ExcludedKind excluded reason)) }
-        ensures adds { AddsOnly (IsBarred (D.universe provider.now) (IsAsking name)) (notes_in self.old) (notes_in self.new) }
         ensures refusal { IfErr result (IsShortage (IsFull (notes_in self.new))) }
     {
         if excluded != solvable {
@@ -155,7 +148,6 @@ impl<N: Copy + Eq + Hash + Drop, S: Copy + Eq + Hash + Drop> Encoding<N, S> {
         ensures plain { OnOk result (AddsPlainly (notes_in self.old) (notes_in self.new)) }
         ensures restored { OnOk result (All (λ e.
             e.0 ≡ solvable → (Contains (notes_in self.old).exempt solvable → ⊥) → Contains (notes_in self.new).kinds (ExcludedKind e.0 e.1)) excluded.now) }
-        ensures adds { AddsOnly (IsBarred (D.universe provider.now) (IsAsking name)) (notes_in self.old) (notes_in self.new) }
         ensures refusal { IfErr result (IsShortage (IsFull (notes_in self.new))) }
     {
         for (other, reason) in excluded {
@@ -178,7 +170,6 @@ impl<N: Copy + Eq + Hash + Drop, S: Copy + Eq + Hash + Drop> Encoding<N, S> {
         ensures step { OnOk result (IsStepWhile (D.universe provider.now) (owing_for solvable) (λ root. ⊤) (notes_in self.old) (notes_in self.new)) }
         ensures plain { OnOk result (AddsPlainly (notes_in self.old) (notes_in self.new)) }
         ensures restored { OnOk result (IsRestored (D.universe provider.now) solvable (notes_in self.new)) }
-        ensures adds { AddsOnly (IsBarred (D.universe provider.now) (IsFollowed (notes_in self.old))) (notes_in self.old) (notes_in self.new) }
         ensures refusal { IfErr result (IsStop (D.may_cancel provider.now) (IsFull (notes_in self.new))) }
     {
         let name = provider.solvable_name(solvable);
@@ -216,7 +207,6 @@ impl<N: Copy + Eq + Hash + Drop, S: Copy + Eq + Hash + Drop> Encoding<N, S> {
         ensures is_true { IsTrueCache (D.universe provider.now) cache.new }
         ensures ended { OnOk result (IsTurnEnd (D.universe provider.now) (notes_in self.old) (notes_in self.new)) }
         ensures exempt { OnOk result ((notes_in self.new).exempt ≡ take exempt_before (notes_in self.old).exempt) }
-        ensures adds { AddsOnly (IsBarred (D.universe provider.now) (IsFollowed (notes_in self.old))) (notes_in self.old) (notes_in self.new) }
         ensures limits { KeepsLimits (notes_in self.old) (notes_in self.new) }
         ensures refusal { IfErr result (IsStop (D.may_cancel provider.now) (IsFull (notes_in self.new))) }
     {

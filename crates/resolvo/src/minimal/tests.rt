@@ -335,69 +335,39 @@ fn random_conflicts_become_irreducible(rt: HostRuntime) -> Result<(), Fail> {
     Ok(())
 }
 
-/// Returns the number of rules in the refined conflict, if the plain search confirms that no set obeys them.
-fn refined_count(alloc: Global, rules: Vec<Rule<u32, u32>>) -> Result<Option<usize>, Exhausted> {
+/// Returns the number of rules in the trimmed conflict, if the plain search confirms that no set obeys them.
+fn trimmed_count(alloc: Global, rules: Vec<Rule<u32, u32>>) -> Result<Option<usize>, Exhausted> {
     let conflict = Conflict { rules };
-    let refined = conflict.refined()?;
-    if find(alloc, refined.rules())?.is_some() {
+    let trimmed = conflict.trimmed()?;
+    if find(alloc, trimmed.rules())?.is_some() {
         return Ok(None);
     }
-    Ok(Some(refined.rules().len()))
+    Ok(Some(trimmed.rules().len()))
 }
 
-fn refined_count_of(alloc: Global, stated: &[Stated<'_>]) -> Result<Option<usize>, Fail> {
+fn trimmed_count_of(alloc: Global, stated: &[Stated<'_>]) -> Result<Option<usize>, Fail> {
     let rules = rules_of(alloc, stated)?;
-    match refined_count(alloc, rules) {
+    match trimmed_count(alloc, rules) {
         Ok(count) => Ok(count),
         Err(_) => Err(Fail::from("refused")),
     }
 }
 
 #[test]
-fn what_a_new_search_does_not_use_is_left_out(rt: HostRuntime) -> Result<(), Fail> {
+fn what_is_not_needed_is_trimmed(rt: HostRuntime) -> Result<(), Fail> {
     let twice_excluded = [
         Stated::Requires(By::Root, &[11], &[]),
         Stated::Excluded(11),
         Stated::Excluded(11),
     ];
-    assert!(rt; refined_count_of(rt.alloc(), &twice_excluded)? == Some(2));
-    assert!(rt; refined_count_of(rt.alloc(), &CLASH[..8])? == Some(8));
+    assert!(rt; trimmed_count_of(rt.alloc(), &twice_excluded)? == Some(2));
+    assert!(rt; trimmed_count_of(rt.alloc(), &CLASH[..8])? == Some(8));
     Ok(())
 }
 
-/// Eight requirements of the root without candidates, each of which is a conflict by itself.
-const MISSING: [Stated<'static>; 8] = [Stated::Requires(By::Root, &[], &[]); 8];
-
-/// Returns whether this variation of the refined conflict has only the rule at this place.
-fn keeps_only(
-    alloc: Global,
-    stated: &[Stated<'_>],
-    variation: usize,
-    place: usize,
-) -> Result<bool, Fail> {
-    let conflict = Conflict {
-        rules: rules_of(alloc, stated)?,
-    };
-    match conflict.refined_variation(variation, 100) {
-        Ok(refined) => Ok(are_copies(refined.rules(), stated, &[place])),
-        Err(_) => Err(Fail::from("refused")),
-    }
-}
-
-#[test]
-fn variations_use_other_rules(rt: HostRuntime) -> Result<(), Fail> {
-    assert!(rt; keeps_only(rt.alloc(), &MISSING, 0, 7)?);
-    assert!(rt; keeps_only(rt.alloc(), &MISSING, 1, 0)?);
-    assert!(rt; keeps_only(rt.alloc(), &MISSING, 2, 0)?);
-    assert!(rt; keeps_only(rt.alloc(), &MISSING, 3, 7)?);
-    assert!(rt; keeps_only(rt.alloc(), &MISSING, 14, 6)?);
-    assert!(rt; keeps_only(rt.alloc(), &MISSING, 15, 1)?);
-    Ok(())
-}
-
-/// The result of refining random rules.
+/// The result of trimming random rules.
 #[derive(Clone, Copy, PartialEq)]
-enum Refined {
+enum Trimmed {
     /// Some set obeys the rules.
     Obeyed,
     /// No set obeys the rules that are left, and there are fewer of them.
@@ -407,36 +377,36 @@ enum Refined {
     Wrong,
 }
 
-fn refine_rules(alloc: Global, rules: Vec<Rule<u32, u32>>) -> Result<Refined, Exhausted> {
+fn trim_rules(alloc: Global, rules: Vec<Rule<u32, u32>>) -> Result<Trimmed, Exhausted> {
     let count = rules.len();
     if find(alloc, &rules)?.is_some() {
-        return Ok(Refined::Obeyed);
+        return Ok(Trimmed::Obeyed);
     }
-    match refined_count(alloc, rules)? {
-        Some(left) if left < count => Ok(Refined::Fewer),
-        Some(left) if left == count => Ok(Refined::AsMany),
-        _ => Ok(Refined::Wrong),
+    match trimmed_count(alloc, rules)? {
+        Some(left) if left < count => Ok(Trimmed::Fewer),
+        Some(left) if left == count => Ok(Trimmed::AsMany),
+        _ => Ok(Trimmed::Wrong),
     }
 }
 
 /// Returns how many lists of random rules lose rules, and how many results are wrong.
-fn refined_counts(alloc: Global) -> Result<(u32, u32), Exhausted> {
+fn trimmed_counts(alloc: Global) -> Result<(u32, u32), Exhausted> {
     let mut fewer: u32 = 0;
     let mut wrong: u32 = 0;
     for seed in 0..300 {
         let rules = draw_rules(alloc, seed)?;
-        match refine_rules(alloc, rules)? {
-            Refined::Obeyed | Refined::AsMany => (),
-            Refined::Fewer => fewer = fewer.saturating_add(1),
-            Refined::Wrong => wrong = wrong.saturating_add(1),
+        match trim_rules(alloc, rules)? {
+            Trimmed::Obeyed | Trimmed::AsMany => (),
+            Trimmed::Fewer => fewer = fewer.saturating_add(1),
+            Trimmed::Wrong => wrong = wrong.saturating_add(1),
         }
     }
     Ok((fewer, wrong))
 }
 
 #[test]
-fn random_conflicts_are_refined(rt: HostRuntime) -> Result<(), Fail> {
-    match refined_counts(rt.alloc()) {
+fn random_conflicts_are_trimmed(rt: HostRuntime) -> Result<(), Fail> {
+    match trimmed_counts(rt.alloc()) {
         Ok((fewer, wrong)) => {
             assert!(rt; wrong == 0);
             assert!(rt; fewer >= 100);

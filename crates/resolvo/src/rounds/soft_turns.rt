@@ -1,18 +1,16 @@
 //! The turns of soft requirements, after there is an answer without them.
 
 ghost use Rattle.std.specs.Iterator.{Drains, IsFinite};
-ghost use Rattle.std.specs.Prelude.{◌≡◌, ◌++◌, ◌∷◌, [], All, Contains, IfErr, IfOk, IfSome, List, MatchBool, OnOk, length, map};
-ghost use Rattle.resolver_clause_store.specs.Candidates.{matching};
+ghost use Rattle.std.specs.Prelude.{◌≡◌, ◌++◌, ◌∷◌, [], All, Contains, IfErr, IfOk, IfSome, List, MatchBool, OnOk, map};
 ghost use Rattle.resolver_clause_store.specs.Caches.{IsTrueCache};
 ghost use Rattle.resolver_clause_store.specs.Laws.{IsIdentity};
 ghost use Rattle.resolver_clause_store.specs.Lists.{IsWithin, Meets};
 ghost use Rattle.resolver_clause_store.specs.Universe.{Demands};
 ghost use Rattle.resolver_clause_store.specs.declared.SoftRequirement.{SoftRequirement as SoftRequirementOf};
 ghost use Rattle.resolver_clause_store.specs.declared.SoftRequirement.TheVariants.{Matching, Solvable as SoftSolvable};
-ghost use Rattle.resolver_encoding.specs.Encodings.{Extends};
 ghost use Rattle.resolver_encoding.specs.Refusals.{IsStop};
 ghost use Rattle.resolver_encoding.specs.Turns.{AsksOnly};
-ghost use Rattle.resolvo.specs.Problems.{AreFirstItems, AreItems, GivesFirst, HaveBegun};
+ghost use Rattle.resolvo.specs.Problems.{AreItems};
 
 use super::Rounds;
 use indexmap::IndexSet;
@@ -36,8 +34,8 @@ fn has_any<T: Eq + Hash>(set: &IndexSet<T>, list: &[T]) -> bool
 }
 
 impl<N: Copy + Eq + Hash + Drop, S: Copy + Eq + Hash + Drop> Rounds<N, S> {
-    ghost use Rattle.resolvo.specs.RoundStates.{AreRounds, HasAllClauses, HaveTurned, IsBetween, IsLedBy, IsStanding, IsStill, IsStuck, IsUpToDate};
-    ghost use Rattle.resolvo.specs.RoundStates.{KeepsRoom, LeadsAsked, LeadsOver, LeadsTurns, chosen_of, notes_of};
+    ghost use Rattle.resolvo.specs.RoundStates.{AreRounds, HasAllClauses, HaveTurned, IsBetween, IsStanding, IsStill, IsStuck};
+    ghost use Rattle.resolvo.specs.RoundStates.{KeepsRoom, chosen_of, notes_of};
 
     /// Gives candidates of asked packages their turns until one is accepted. Returns whether one is.
     fn take_first<D: DependencyProvider<NameId = N, SolvableId = S>>(
@@ -60,7 +58,6 @@ impl<N: Copy + Eq + Hash + Drop, S: Copy + Eq + Hash + Drop> Rounds<N, S> {
             (root : Demands) (taken refused seeds : List S) (packages : List N) → IsWithin candidates.now seeds →
             IsStanding (D.universe provider.now) root taken refused seeds packages self.old →
             HaveTurned (D.universe provider.now) root taken seeds packages candidates.now self.old self.new is_chosen) }
-        ensures led { LeadsTurns (D.universe provider.now) candidates.now self.old self.new }
         ensures limits { KeepsRoom self.old self.new }
         ensures refusal { IfErr result (IsStop (D.may_cancel provider.now) (IsStuck self.new)) }
     {
@@ -93,7 +90,6 @@ impl<N: Copy + Eq + Hash + Drop, S: Copy + Eq + Hash + Drop> Rounds<N, S> {
             ((root : Demands) (taken refused seeds : List S) (packages : List N) → Contains packages ((D.universe provider.now).version_set_name version_set) →
             IsStanding (D.universe provider.now) root taken refused seeds packages self.old →
             IsStanding (D.universe provider.now) root taken refused seeds packages self.new) }
-        ensures led { LeadsAsked (D.universe provider.now) ((D.universe provider.now).version_set_name version_set) self.old self.new }
         ensures limits { KeepsRoom self.old self.new }
         ensures refusal { IfErr result (IsStop (D.may_cancel provider.now) (IsStuck self.new)) }
     {
@@ -121,7 +117,6 @@ impl<N: Copy + Eq + Hash + Drop, S: Copy + Eq + Hash + Drop> Rounds<N, S> {
         ensures counted { OnOk result (HasAllClauses self.new) }
         ensures between { OnOk result ((root : Demands) (done : List (SoftRequirementOf S)) → IsBetween (D.universe provider.now) root done self.old →
             IsBetween (D.universe provider.now) root (done ++ Matching version_set ∷ []) self.new) }
-        ensures led { LeadsOver (D.universe provider.now) (Matching version_set) self.old self.new }
         ensures limits { KeepsRoom self.old self.new }
         ensures refusal { IfErr result (IsStop (D.may_cancel provider.now) (IsStuck self.new)) }
     {
@@ -151,7 +146,6 @@ impl<N: Copy + Eq + Hash + Drop, S: Copy + Eq + Hash + Drop> Rounds<N, S> {
         ensures counted { OnOk result (HasAllClauses self.new) }
         ensures between { OnOk result ((root : Demands) (done : List (SoftRequirementOf S)) → IsBetween (D.universe provider.now) root done self.old →
             IsBetween (D.universe provider.now) root (done ++ requirement ∷ []) self.new) }
-        ensures led { LeadsOver (D.universe provider.now) requirement self.old self.new }
         ensures limits { KeepsRoom self.old self.new }
         ensures refusal { IfErr result (IsStop (D.may_cancel provider.now) (IsStuck self.new)) }
     {
@@ -189,12 +183,6 @@ impl<N: Copy + Eq + Hash + Drop, S: Copy + Eq + Hash + Drop> Rounds<N, S> {
         ensures counted { OnOk result (HasAllClauses self.new) }
         ensures between { OnOk result ((root : Demands) → IsBetween (D.universe provider.now) root [] self.old → (items : List S) ×
             Drains I.next_gives soft items × IsBetween (D.universe provider.now) root (map SoftSolvable items) self.new) }
-        ensures over { OnOk result ((root : Demands) → IsBetween (D.universe provider.now) root [] self.old →
-            IsLedBy (D.universe provider.now) root [] self.old → (items : List S) × Drains I.next_gives soft items ×
-            IsBetween (D.universe provider.now) root (map SoftSolvable items) self.new ×
-            IsLedBy (D.universe provider.now) root (map SoftSolvable items) self.new) }
-        ensures led { (root : Demands) → IsBetween (D.universe provider.now) root [] self.old → IsLedBy (D.universe provider.now) root [] self.old →
-            (items : List S) × GivesFirst I.next_gives soft items × IsLedBy (D.universe provider.now) root (map SoftSolvable items) self.new }
         ensures limits { KeepsRoom self.old self.new }
         ensures refusal { IfErr result (IsStop (D.may_cancel provider.now) (IsStuck self.new)) }
     {
@@ -220,9 +208,6 @@ impl<N: Copy + Eq + Hash + Drop, S: Copy + Eq + Hash + Drop> Rounds<N, S> {
         ensures counted { OnOk result (HasAllClauses self.new) }
         ensures between { OnOk result ((root : Demands) (done : List (SoftRequirementOf S)) → IsBetween (D.universe provider.now) root done self.old →
             IsBetween (D.universe provider.now) root (done ++ list.now) self.new) }
-        ensures led { (root : Demands) (done : List (SoftRequirementOf S)) → IsBetween (D.universe provider.now) root done self.old →
-            IsLedBy (D.universe provider.now) root done self.old →
-            (first : List (SoftRequirementOf S)) × Extends first list.now × IsLedBy (D.universe provider.now) root (done ++ first) self.new }
         ensures limits { KeepsRoom self.old self.new }
         ensures refusal { IfErr result (IsStop (D.may_cancel provider.now) (IsStuck self.new)) }
     {
@@ -251,12 +236,6 @@ impl<N: Copy + Eq + Hash + Drop, S: Copy + Eq + Hash + Drop> Rounds<N, S> {
         ensures counted { OnOk result (HasAllClauses self.new) }
         ensures between { OnOk result ((root : Demands) → IsBetween (D.universe provider.now) root [] self.old → (items : List S) ×
             AreItems I.next_gives soft items × IsBetween (D.universe provider.now) root (map SoftSolvable items) self.new) }
-        ensures over { OnOk result ((root : Demands) → IsBetween (D.universe provider.now) root [] self.old →
-            IsLedBy (D.universe provider.now) root [] self.old → (items : List S) × AreItems I.next_gives soft items ×
-            IsBetween (D.universe provider.now) root (map SoftSolvable items) self.new ×
-            IsLedBy (D.universe provider.now) root (map SoftSolvable items) self.new) }
-        ensures led { (root : Demands) → IsBetween (D.universe provider.now) root [] self.old → IsLedBy (D.universe provider.now) root [] self.old →
-            (items : List S) × AreFirstItems I.next_gives soft items × IsLedBy (D.universe provider.now) root (map SoftSolvable items) self.new }
         ensures limits { KeepsRoom self.old self.new }
         ensures refusal { IfErr result (IsStop (D.may_cancel provider.now) (IsStuck self.new)) }
     {
@@ -291,8 +270,6 @@ impl<N: Copy + Eq + Hash + Drop, S: Copy + Eq + Hash + Drop> Rounds<N, S> {
         ensures counted { OnOk result (HasAllClauses self.new) }
         ensures between { OnOk result ((root : Demands) → IsBetween (D.universe provider.now) root [] self.old → (items : List S) ×
             AreItems I.next_gives soft items × IsBetween (D.universe provider.now) root (map SoftSolvable items ++ list.now) self.new) }
-        ensures led { (root : Demands) → IsBetween (D.universe provider.now) root [] self.old → IsLedBy (D.universe provider.now) root [] self.old →
-            (done : List (SoftRequirementOf S)) × HaveBegun I.next_gives soft list.now done × IsLedBy (D.universe provider.now) root done self.new }
         ensures limits { KeepsRoom self.old self.new }
         ensures refusal { IfErr result (IsStop (D.may_cancel provider.now) (IsStuck self.new)) }
     {

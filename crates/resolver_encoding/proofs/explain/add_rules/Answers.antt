@@ -12,14 +12,6 @@ use Rattle.std.proofs.lemmas.Result.{IfOk-from_err}
 use Rattle.resolver_encoding.proofs.RefusalLemmas.{IfErr-of}
 use Rattle.resolver_encoding.proofs.explain.add_rules.Goals as goal
 
-pub returns-in_err-add_requirement-in-Requires : goal.returns-in_err-add_requirement-in-Requires
-returns-in_err-add_requirement-in-Requires g c =
-    record {
-      is_true = c.add_requirement.ensures.is_true;
-      added = IfOk-from_err c.from_residual.result _ c.from_residual.ensures.0;
-      refusal = IfErr-of c.from_residual.result _ _ c.from_residual.ensures.1 c.in_err-add_requirement-in-Requires.ensures.refusal;
-    }
-
 pub returns-in_ok-add_requirement-in-Requires : goal.returns-in_ok-add_requirement-in-Requires
 returns-in_ok-add_requirement-in-Requires g c =
     record {
@@ -32,15 +24,6 @@ returns-in_ok-add_requirement-in-Requires g c =
           subst Adds (sym c.in-Requires.is) (subst Of c.as_slice-disjunct.ensures c.in_ok-add_requirement-in-Requires.ensures.added);
       is_true = c.add_requirement.ensures.is_true;
       refusal = tt;
-    }
-
-pub returns-in_err-add_gate-in-GateRequires : goal.returns-in_err-add_gate-in-GateRequires
-returns-in_err-add_gate-in-GateRequires g c =
-    record {
-      is_true = c.add_gate.ensures.is_true;
-      added = IfOk-from_err c.from_residual-in_err-add_gate-in-GateRequires.result _ c.from_residual-in_err-add_gate-in-GateRequires.ensures.0;
-      refusal = IfErr-of c.from_residual-in_err-add_gate-in-GateRequires.result _ _ c.from_residual-in_err-add_gate-in-GateRequires.ensures.1
-          c.in_err-add_gate-in-GateRequires.ensures.refusal;
     }
 
 pub returns-in_ok-add_gate-in-GateRequires : goal.returns-in_ok-add_gate-in-GateRequires
@@ -60,15 +43,6 @@ returns-in_ok-add_gate-in-GateRequires g c =
       refusal = tt;
     }
 
-pub returns-in_err-constrain-in-Constrains : goal.returns-in_err-constrain-in-Constrains
-returns-in_err-constrain-in-Constrains g c =
-    record {
-      is_true = c.requires.is_true;
-      added = IfOk-from_err c.from_residual-in_err-constrain-in-Constrains.result _ c.from_residual-in_err-constrain-in-Constrains.ensures.0;
-      refusal = IfErr-of c.from_residual-in_err-constrain-in-Constrains.result _ _ c.from_residual-in_err-constrain-in-Constrains.ensures.1
-          c.in_err-constrain-in-Constrains.ensures.memory;
-    }
-
 pub returns-in_ok-constrain-in-Constrains : goal.returns-in_ok-constrain-in-Constrains
 returns-in_ok-constrain-in-Constrains g c =
     record {
@@ -77,16 +51,6 @@ returns-in_ok-constrain-in-Constrains g c =
       added = let Adds : ClauseKind g.row.D-NameId.Denot g.row.D-SolvableId.Denot → Type 0 =
           λ k. AddsRules (StatesRule (g.D.Interner.universe c.args.provider.now) c.args.sources.now k) c.args.listing.now c.constrain.new.self in
           subst Adds (sym c.in-Constrains.is) c.in_ok-constrain-in-Constrains.ensures.added;
-    }
-
-pub returns-in_err-constrain_each-in-ConstrainsParent : goal.returns-in_err-constrain_each-in-ConstrainsParent
-returns-in_err-constrain_each-in-ConstrainsParent g c =
-    record {
-      is_true = c.requires.is_true;
-      added = IfOk-from_err c.from_residual-in_err-constrain_each-in-ConstrainsParent.result _
-          c.from_residual-in_err-constrain_each-in-ConstrainsParent.ensures.0;
-      refusal = IfErr-of c.from_residual-in_err-constrain_each-in-ConstrainsParent.result _ _
-          c.from_residual-in_err-constrain_each-in-ConstrainsParent.ensures.1 c.in_err-constrain_each-in-ConstrainsParent.ensures.memory;
     }
 
 pub returns-in_ok-constrain_each-in-ConstrainsParent : goal.returns-in_ok-constrain_each-in-ConstrainsParent
@@ -107,14 +71,6 @@ returns-in_ok-constrain_each-in-ConstrainsParent g c =
       refusal = tt;
     }
 
-pub returns-in_err-lock-in-Lock : goal.returns-in_err-lock-in-Lock
-returns-in_err-lock-in-Lock g c =
-    record {
-      is_true = c.requires.is_true;
-      added = IfOk-from_err c.from_residual-in_err-lock-in-Lock.result _ c.from_residual-in_err-lock-in-Lock.ensures.0;
-      refusal = IfErr-of c.from_residual-in_err-lock-in-Lock.result _ _ c.from_residual-in_err-lock-in-Lock.ensures.1 c.in_err-lock-in-Lock.ensures.memory;
-    }
-
 pub returns-in_ok-lock-in-Lock : goal.returns-in_ok-lock-in-Lock
 returns-in_ok-lock-in-Lock g c =
     record {
@@ -123,13 +79,4 @@ returns-in_ok-lock-in-Lock g c =
       added = let Adds : ClauseKind g.row.D-NameId.Denot g.row.D-SolvableId.Denot → Type 0 =
           λ k. AddsRules (StatesRule (g.D.Interner.universe c.args.provider.now) c.args.sources.now k) c.args.listing.now c.lock.new.self in
           subst Adds (sym c.in-Lock.is) c.in_ok-lock-in-Lock.ensures.added;
-    }
-
-pub returns-in_err-exclude-in-Excluded : goal.returns-in_err-exclude-in-Excluded
-returns-in_err-exclude-in-Excluded g c =
-    record {
-      is_true = c.requires.is_true;
-      added = IfOk-from_err c.from_residual-in_err-exclude-in-Excluded.result _ c.from_residual-in_err-exclude-in-Excluded.ensures.0;
-      refusal = IfErr-of c.from_residual-in_err-exclude-in-Excluded.result _ _ c.from_residual-in_err-exclude-in-Excluded.ensures.1
-          c.in_err-exclude-in-Excluded.ensures.memory;
     }

@@ -3,8 +3,6 @@ use Rattle.std.proofs.lemmas.List.{take_all}
 use Rattle.resolver_clause_store.specs.declared.Origin.TheVariants.{Solvable}
 use Rattle.resolver_encoding.specs.Atoms.{atom}
 use Rattle.resolver_encoding.proofs.ClauseLemmas.{Adds-next, Adds-none, Grows-same, Grows-trans}
-use Rattle.resolver_encoding.proofs.LedLemmas.{AddsSuch-same, AddsSuch-trans, AddsSuch-weaker}
-use Rattle.resolver_clause_store.proofs.SetLemmas.{Contains-item}
 use Rattle.resolver_encoding.proofs.literals.push_candidates.Goals as goal
 
 pub loop-candidate-init : goal.loop-candidate-init
@@ -13,7 +11,6 @@ loop-candidate-init g c = record {
   limit = refl;
   grows = Grows-same _;
   added = Adds-none _ _;
-  adds = AddsSuch-same _ _;
 }
 
 pub loop-candidate-preserved : goal.loop-candidate-preserved
@@ -26,16 +23,7 @@ loop-candidate-preserved g c =
       added = Adds-next (λ s. atom (Solvable s) true) _ _ _ _ _ c.args.candidates.now c.loop-candidate.candidate-index c.candidate-item.result _
           c.push_literal.ensures.grows before.added (omega arith)
           (ap (λ s. atom (Solvable s) true) (sym c.candidate-item.is)) c.in_ok-push_literal.ensures.added;
-      adds = AddsSuch-trans _ _ _ _ before.adds
-          (AddsSuch-weaker _ _ (λ o same.
-          (_, Contains-item c.args.candidates.now c.loop-candidate.candidate-index _ (omega arith) c.candidate-item.is, same)) _ _ c.push_literal.ensures.adds);
     }
 
 pub returns-clause-added : goal.returns-clause-added
 returns-clause-added g c = rw (take_all c.loop-candidate.candidate-index c.args.candidates.now (omega arith)) at c.loop-candidate.invariant.added
-
-pub returns-in_err-push_literal-clause-adds : goal.returns-in_err-push_literal-clause-adds
-returns-in_err-push_literal-clause-adds g c =
-    AddsSuch-trans _ _ _ _ c.loop-candidate.invariant.adds
-    (AddsSuch-weaker _ _ (λ o same.
-    (_, Contains-item c.args.candidates.now c.loop-candidate.candidate-index _ (omega arith) c.candidate-item.is, same)) _ _ c.push_literal.ensures.adds)

@@ -5,7 +5,6 @@ use Rattle.resolver_clause_store.specs.declared.Origin.{Origin}
 use Rattle.resolver_encoding.specs.Atoms.{front}
 use Rattle.resolver_encoding.specs.Encodings.{Adds}
 use Rattle.resolver_encoding.proofs.ClauseLemmas.{Adds-trans}
-use Rattle.resolver_encoding.proofs.TableLemmas.{front_one, front_two}
 use Rattle.resolver_encoding.proofs.literals.push_front.Goals as goal
 
 pub returns-in_ok-push_literal-in-Some-clause-added : goal.returns-in_ok-push_literal-in-Some-clause-added
@@ -15,17 +14,3 @@ returns-in_ok-push_literal-in-Some-clause-added g c =
     (front c.args.first second) in
     subst Front (sym c.in-Some.is)
     (Adds-trans _ _ _ _ _ _ _ c.push_literal-in-Some.ensures.grows c.in_ok-push_literal.ensures.added c.in_ok-push_literal-in-Some.ensures.added)
-
-pub returns-in_err-push_literal-clause-adds : goal.returns-in_err-push_literal-clause-adds
-returns-in_err-push_literal-clause-adds g c = front_one c.args.first c.args.second _ _ c.push_literal.ensures.adds
-
-pub returns-in-None-clause-adds : goal.returns-in-None-clause-adds
-returns-in-None-clause-adds g c = front_one c.args.first c.args.second _ _ c.push_literal.ensures.adds
-
-pub returns-in_err-push_literal-in-Some-clause-adds : goal.returns-in_err-push_literal-in-Some-clause-adds
-returns-in_err-push_literal-in-Some-clause-adds g c =
-    front_two c.args.first _ c.args.second _ _ _ c.in-Some.is c.push_literal.ensures.adds c.push_literal-in-Some.ensures.adds
-
-pub returns-in_ok-push_literal-in-Some-clause-adds : goal.returns-in_ok-push_literal-in-Some-clause-adds
-returns-in_ok-push_literal-in-Some-clause-adds g c =
-    front_two c.args.first _ c.args.second _ _ _ c.in-Some.is c.push_literal.ensures.adds c.push_literal-in-Some.ensures.adds

@@ -3,8 +3,6 @@ use Rattle.std.proofs.lemmas.List.{take_all}
 use Rattle.resolver_clause_store.specs.declared.Origin.TheVariants.{ConditionHelper}
 use Rattle.resolver_encoding.specs.Atoms.{atom}
 use Rattle.resolver_encoding.proofs.ClauseLemmas.{Adds-next, Adds-none, Grows-same, Grows-trans}
-use Rattle.resolver_encoding.proofs.LedLemmas.{AddsSuch-same, AddsSuch-trans, AddsSuch-weaker}
-use Rattle.std.proofs.lemmas.List.Elements.{Contains-get_or}
 use Rattle.resolver_encoding.proofs.literals.push_helpers.Goals as goal
 
 pub loop-version_set-init : goal.loop-version_set-init
@@ -13,7 +11,6 @@ loop-version_set-init g c = record {
   limit = refl;
   grows = Grows-same _;
   added = Adds-none _ _;
-  adds = AddsSuch-same _ _;
 }
 
 pub loop-version_set-preserved : goal.loop-version_set-preserved
@@ -25,16 +22,7 @@ loop-version_set-preserved g c =
       grows = Grows-trans _ _ _ before.grows c.push_literal.ensures.grows;
       added = Adds-next (λ v. atom (ConditionHelper v) false) _ _ _ _ _ c.args.disjunct.now c.loop-version_set.version_set-index _ _
           c.push_literal.ensures.grows before.added (omega arith) refl c.in_ok-push_literal.ensures.added;
-      adds = AddsSuch-trans _ _ _ _ before.adds
-          (AddsSuch-weaker _ _ (λ o same.
-          (_, Contains-get_or c.args.disjunct.now c.loop-version_set.version_set-index _ (omega arith), same)) _ _ c.push_literal.ensures.adds);
     }
 
 pub returns-clause-added : goal.returns-clause-added
 returns-clause-added g c = rw (take_all c.loop-version_set.version_set-index c.args.disjunct.now (omega arith)) at c.loop-version_set.invariant.added
-
-pub returns-in_err-push_literal-clause-adds : goal.returns-in_err-push_literal-clause-adds
-returns-in_err-push_literal-clause-adds g c =
-    AddsSuch-trans _ _ _ _ c.loop-version_set.invariant.adds
-    (AddsSuch-weaker _ _ (λ o same.
-    (_, Contains-get_or c.args.disjunct.now c.loop-version_set.version_set-index _ (omega arith), same)) _ _ c.push_literal.ensures.adds)

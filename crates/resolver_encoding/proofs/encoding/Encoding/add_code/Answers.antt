@@ -4,14 +4,11 @@ use Rattle.resolver_encoding.specs.Encodings.{coding_for}
 use Rattle.resolver_encoding.specs.Notes.{notes_in}
 use Rattle.resolver_encoding.proofs.EncodingLemmas.{IsStep-same, IsStep-trans, clause_listed}
 use Rattle.resolver_encoding.proofs.SeeLemmas.{IsStep-own, more_digits}
-use Rattle.resolver_encoding.proofs.LedLemmas.{AddsOnly-equal, AddsOnly-trans, AddsOnly-weaker, code_digit}
-use Rattle.resolver_encoding.proofs.TableLemmas.{mentioned_two}
 use Rattle.resolver_encoding.proofs.RoomLemmas.{KeepsRoom-same, KeepsRoom-trans}
 use Rattle.resolver_encoding.proofs.encoding.Encoding.add_code.Goals as goal
 
 pub loop-index-init : goal.loop-index-init
 loop-index-init g c = record {
-  adds = AddsOnly-equal _ _ _ refl refl;
   room = KeepsRoom-same _ c.requires.bounded;
   step = IsStep-same (g.D.Interner.universe c.args.provider.now) (coding_for c.args.name c.args.number c.args.solvable) (λ root. ⊤) (notes_in c.args.self.now);
   code = λ i below. absurd (omega (arith, below));
@@ -33,9 +30,6 @@ loop-index-preserved g c =
     let step = IsStep-own u g.N.PartialEq.eq g.S.PartialEq.eq g.met.D.Interner.names_are_values g.met.D.Interner.solvables_are_values n k s old new
     c.loop-index.index c.has_digit-value.result adds (sym c.requires.name) c.has_digit-value.ensures in
     record {
-      adds = AddsOnly-trans _ _ _ _ before.adds
-          (AddsOnly-weaker _ _ (λ o is. code_digit c.args.name c.args.number c.args.solvable c.loop-index.index
-          (c.digit_count-index-end.ensures.each c.loop-index.index (omega arith)) o (mentioned_two _ _ o is)) _ _ (c.add.ensures.adds u refl));
       room = KeepsRoom-trans _ _ _ before.room c.add.ensures.room;
       step = IsStep-trans u (coding_for n k s) (λ root. ⊤) _ _ _ before.step step;
       code = more_digits old.kinds new.kinds n k s c.loop-index.index c.has_digit-value.result step.kinds before.code c.has_digit-value.ensures
@@ -44,10 +38,3 @@ loop-index-preserved g c =
       seen = ap (λ x. x.seen) adds.is ∙ before.seen;
       requirements = ap (λ x. x.requirements) adds.is ∙ before.requirements;
     }
-
-pub returns-in_err-add-clause-adds : goal.returns-in_err-add-clause-adds
-returns-in_err-add-clause-adds g c =
-    let u = g.D.Interner.universe c.args.provider.now in
-    AddsOnly-trans _ _ _ _ c.loop-index.invariant.adds
-    (AddsOnly-weaker _ _ (λ o is. code_digit c.args.name c.args.number c.args.solvable c.loop-index.index
-    (c.digit_count-index-end.ensures.each c.loop-index.index (omega arith)) o (mentioned_two _ _ o is)) _ _ (c.add.ensures.adds u refl))

@@ -4,7 +4,6 @@ use Rattle.resolver_clause_store.specs.declared.ClauseKind.TheVariants.{HasBit}
 use Rattle.resolver_encoding.specs.Codes.{bit}
 use Rattle.resolver_encoding.specs.Encodings.{IsStepWhile, coding_for}
 use Rattle.resolver_encoding.specs.Notes.{KeepsRoom, notes_in}
-use Rattle.resolver_encoding.specs.Led.{AddsOnly, IsDigitOf}
 use Rattle.resolver_encoding.proofs.encoding.Encoding.add_code.Given as goal
 
 abbrev pub invariant-loop-index : goal.invariant-loop-index
@@ -15,5 +14,4 @@ invariant-loop-index g l = record {
   groups : (notes_in l.self).groups ≡ (notes_in l.fn.self).groups;
   seen : (notes_in l.self).seen ≡ (notes_in l.fn.self).seen;
   requirements : (notes_in l.self).requirements ≡ (notes_in l.fn.self).requirements;
-  adds : AddsOnly (IsDigitOf l.name l.number l.solvable) (notes_in l.fn.self) (notes_in l.self);
 }

@@ -1,6 +1,5 @@
-use Rattle.std.proofs.Common.{ap, refl}
+use Rattle.std.proofs.Common.{ap}
 use Rattle.resolver_encoding.specs.Notes.{notes_in}
-use Rattle.resolver_encoding.proofs.LedLemmas.{AddsOnly-such}
 use Rattle.resolver_encoding.proofs.TableLemmas.{with_table}
 use Rattle.resolver_encoding.proofs.encoding.Encoding.add_with.Goals as goal
 
@@ -13,9 +12,3 @@ returns-clause-added g c = λ u are.
       clause = added.clause;
       is = ap (with_table (notes_in c.args.self.now)) added.is;
     }
-
-pub returns-in_err-add-clause-adds : goal.returns-in_err-add-clause-adds
-returns-in_err-add-clause-adds g c = λ u are. AddsOnly-such _ _ _ (c.add.ensures.adds u are) refl
-
-pub returns-clause-adds : goal.returns-clause-adds
-returns-clause-adds g c = λ u are. AddsOnly-such _ _ _ (c.add.ensures.adds u are) refl

@@ -1,4 +1,4 @@
-use Rattle.std.proofs.Common.{◌∙◌, ◌∷◌, ◌++◌, [], sym, ap, subst, All, Contains, List, refl}
+use Rattle.std.proofs.Common.{◌∙◌, sym, ap, subst, All, Contains, List, refl}
 use Rattle.std.specs.Prelude.{⊤}
 use Rattle.std.proofs.lemmas.List.Elements.{Contains-push}
 use Rattle.resolver_clause_store.specs.declared.ClauseKind.TheVariants.{Excluded}
@@ -11,7 +11,6 @@ use Rattle.resolver_encoding.proofs.TurnLemmas.{AddsPlainly-trans, AsksOnly-of, 
 use Rattle.std.proofs.lemmas.Result.{IfOk-from_err}
 use Rattle.resolver_encoding.specs.Called.{IsAsking}
 use Rattle.resolver_encoding.proofs.RefusalLemmas.{IfErr-of, IfErr-stop, shortage_of_memory}
-use Rattle.resolver_encoding.proofs.LedLemmas.{AddsOnly-equal, AddsOnly-same_as, AddsOnly-trans}
 use Rattle.resolver_encoding.proofs.encoding.Encoding.ask.Goals as goal
 
 pub append-requires-clause-absent : goal.append-requires-clause-absent
@@ -45,7 +44,6 @@ pub returns-clause-alone : goal.returns-clause-alone
 returns-clause-alone g c =
     let u = g.D.Interner.universe c.args.provider.now in
     let mid = notes_in c.exclude_each.new.self in
-    let new = record mid { asked = mid.asked ++ c.args.name ∷ [] } in
     let Plain : List g.row.N.Denot → Type 0 = λ list. AddsPlainly (notes_in c.args.self.now) (record mid { asked = list }) in
     let plain = AddsPlainly-trans u _ _ _ c.in_ok-lock_out_others.ensures.plain c.in_ok-exclude_each.ensures.plain in
     AsksOnly-of u c.args.name (notes_in c.args.self.now) _ (returns-clause-step g c) (returns-clause-asked g c)
@@ -57,10 +55,6 @@ returns-clause-bounded g c = c.exclude_each.ensures.room.bounded
 pub returns-clause-limits : goal.returns-clause-limits
 returns-clause-limits g c = let one = c.lock_out_others.ensures.room in let two = c.exclude_each.ensures.room in record { variables = two.variables ∙ one.variables; clauses = two.clauses ∙ one.clauses }
 
-pub returns-clause-adds : goal.returns-clause-adds
-returns-clause-adds g c = AddsOnly-same_as _ (notes_in c.args.self.now) (notes_in c.exclude_each.new.self) _
-    (AddsOnly-trans _ _ _ _ c.lock_out_others.ensures.adds c.exclude_each.ensures.adds) refl refl
-
 pub returns-then-is_among : goal.returns-then-is_among
 returns-then-is_among g c =
     let u = g.D.Interner.universe c.args.provider.now in
@@ -71,62 +65,8 @@ returns-then-is_among g c =
       step = IsAskStep-same u (IsAsking c.args.name) (λ root. ⊤) old;
       alone = AsksOnly-same u c.args.name old c.if-is_among.ensures;
       asked = c.if-is_among.ensures;
-      adds = AddsOnly-equal _ _ _ refl refl;
       limits = record { variables = refl; clauses = refl };
       refusal = tt;
-    }
-
-pub returns-in_err-fetch_candidates : goal.returns-in_err-fetch_candidates
-returns-in_err-fetch_candidates g c =
-    record {
-      bounded = c.requires.bounded;
-      is_true = c.fetch_candidates.ensures.is_true;
-      step = IfOk-from_err c.from_residual.result _ c.from_residual.ensures.0;
-      alone = IfOk-from_err c.from_residual.result _ c.from_residual.ensures.0;
-      asked = IfOk-from_err c.from_residual.result _ c.from_residual.ensures.0;
-      adds = AddsOnly-equal _ _ _ refl refl;
-      limits = record { variables = refl; clauses = refl };
-      refusal = IfErr-stop c.from_residual.result (g.D.DependencyProvider.may_cancel c.args.provider.now) _ _ c.from_residual.ensures.1 c.in_err-fetch_candidates.ensures.refusal;
-    }
-
-pub returns-in_err-lock_out_others : goal.returns-in_err-lock_out_others
-returns-in_err-lock_out_others g c =
-    record {
-      bounded = c.lock_out_others.ensures.room.bounded;
-      is_true = c.fetch_candidates.ensures.is_true;
-      step = IfOk-from_err c.from_residual-in_err-lock_out_others.result _ c.from_residual-in_err-lock_out_others.ensures.0;
-      alone = IfOk-from_err c.from_residual-in_err-lock_out_others.result _ c.from_residual-in_err-lock_out_others.ensures.0;
-      asked = IfOk-from_err c.from_residual-in_err-lock_out_others.result _ c.from_residual-in_err-lock_out_others.ensures.0;
-      adds = c.lock_out_others.ensures.adds;
-      limits = let it = c.lock_out_others.ensures.room in record { variables = it.variables; clauses = it.clauses };
-      refusal = IfErr-of c.from_residual-in_err-lock_out_others.result _ _ c.from_residual-in_err-lock_out_others.ensures.1 c.in_err-lock_out_others.ensures.refusal;
-    }
-
-pub returns-in_err-exclude_each : goal.returns-in_err-exclude_each
-returns-in_err-exclude_each g c =
-    record {
-      bounded = c.exclude_each.ensures.room.bounded;
-      is_true = c.fetch_candidates.ensures.is_true;
-      step = IfOk-from_err c.from_residual-in_err-exclude_each.result _ c.from_residual-in_err-exclude_each.ensures.0;
-      alone = IfOk-from_err c.from_residual-in_err-exclude_each.result _ c.from_residual-in_err-exclude_each.ensures.0;
-      asked = IfOk-from_err c.from_residual-in_err-exclude_each.result _ c.from_residual-in_err-exclude_each.ensures.0;
-      adds = AddsOnly-trans _ _ _ _ c.lock_out_others.ensures.adds c.exclude_each.ensures.adds;
-      limits = let one = c.lock_out_others.ensures.room in let two = c.exclude_each.ensures.room in record { variables = two.variables ∙ one.variables; clauses = two.clauses ∙ one.clauses };
-      refusal = IfErr-of c.from_residual-in_err-exclude_each.result _ _ c.from_residual-in_err-exclude_each.ensures.1 c.in_err-exclude_each.ensures.refusal;
-    }
-
-pub returns-in_err-append : goal.returns-in_err-append
-returns-in_err-append g c =
-    record {
-      bounded = c.exclude_each.ensures.room.bounded;
-      is_true = c.fetch_candidates.ensures.is_true;
-      step = IfOk-from_err c.from_residual-in_err-append.result _ c.from_residual-in_err-append.ensures.0;
-      alone = IfOk-from_err c.from_residual-in_err-append.result _ c.from_residual-in_err-append.ensures.0;
-      asked = IfOk-from_err c.from_residual-in_err-append.result _ c.from_residual-in_err-append.ensures.0;
-      adds = AddsOnly-same_as _ (notes_in c.args.self.now) (notes_in c.exclude_each.new.self) _
-          (AddsOnly-trans _ _ _ _ c.lock_out_others.ensures.adds c.exclude_each.ensures.adds) refl refl;
-      limits = let one = c.lock_out_others.ensures.room in let two = c.exclude_each.ensures.room in record { variables = two.variables ∙ one.variables; clauses = two.clauses ∙ one.clauses };
-      refusal = IfErr-of c.from_residual-in_err-append.result _ _ c.from_residual-in_err-append.ensures.1 (shortage_of_memory _ _ c.in_err-append.ensures.memory);
     }
 
 pub candidates-package-requires-clause-names : goal.candidates-package-requires-clause-names

@@ -1,4 +1,4 @@
-use Rattle.std.proofs.Common.{refl, arith, Contains}
+use Rattle.std.proofs.Common.{arith, Contains}
 use Rattle.std.specs.Prelude.{⊤}
 use Rattle.std.proofs.lemmas.List.Elements.{All-nil}
 use Rattle.resolver_encoding.specs.Called.{IsAsking, IsNamedBy}
@@ -6,8 +6,6 @@ use Rattle.resolver_encoding.specs.Notes.{notes_in}
 use Rattle.resolver_clause_store.proofs.SetLemmas.{All-done}
 use Rattle.resolver_encoding.proofs.EncodingLemmas.{IsAskStep-same, IsAskStep-trans, IsAskStep-weaker}
 use Rattle.resolver_encoding.proofs.NoteLemmas.{All-grown_at, named_here}
-use Rattle.resolver_encoding.proofs.LedLemmas.{AddsOnly-equal, AddsOnly-trans}
-use Rattle.resolver_encoding.proofs.LedLemmas.{AddsOnly-weaker, IsBarred-weaker}
 use Rattle.resolver_encoding.proofs.RoomLemmas.{KeepsRoom-of, KeepsRoom-same, KeepsRoom-trans}
 use Rattle.resolver_encoding.proofs.encoding.Encoding.ask_each.Goals as goal
 
@@ -15,7 +13,6 @@ pub loop-version_set-init : goal.loop-version_set-init
 loop-version_set-init g c =
     let u = g.D.Interner.universe c.args.provider.now in
     record {
-      adds = AddsOnly-equal _ _ _ refl refl;
       room = KeepsRoom-same _ c.requires.bounded;
       step = IsAskStep-same u (IsNamedBy u c.args.named.now) (λ root. ⊤) (notes_in c.args.self.now);
       asked = All-nil (λ v. Contains (notes_in c.args.self.now).asked (u.version_set_name v));
@@ -27,10 +24,6 @@ loop-version_set-preserved g c =
     let u = g.D.Interner.universe c.args.provider.now in
     let before = c.loop-version_set.invariant in
     record {
-      adds = AddsOnly-trans _ _ _ _ before.adds
-          (AddsOnly-weaker _ _ (IsBarred-weaker (g.D.Interner.universe c.args.provider.now) _ _ (λ call is.
-          named_here (g.D.Interner.universe c.args.provider.now) c.args.named.now c.loop-version_set.version_set-index _ _ call
-          (omega arith) c.version_set_name.ensures is)) _ _ c.ask.ensures.adds);
       room = KeepsRoom-trans _ _ _ before.room (KeepsRoom-of _ _ c.ask.ensures.bounded c.ask.ensures.limits);
       step = IsAskStep-trans u (IsNamedBy u c.args.named.now) (λ root. ⊤) _ _ _ before.step
           (IsAskStep-weaker u (IsAsking c.version_set_name.result) (IsNamedBy u c.args.named.now) (λ call is.
@@ -47,10 +40,3 @@ returns-clause-asked g c =
     let u = g.D.Interner.universe c.args.provider.now in
     All-done (λ v. Contains c.loop-version_set.self.asked.keys (u.version_set_name v)) c.args.named.now c.loop-version_set.version_set-index
     (omega arith) c.loop-version_set.invariant.asked
-
-pub returns-in_err-ask-clause-adds : goal.returns-in_err-ask-clause-adds
-returns-in_err-ask-clause-adds g c =
-    AddsOnly-trans _ _ _ _ c.loop-version_set.invariant.adds
-    (AddsOnly-weaker _ _ (IsBarred-weaker (g.D.Interner.universe c.args.provider.now) _ _ (λ call is.
-    named_here (g.D.Interner.universe c.args.provider.now) c.args.named.now c.loop-version_set.version_set-index _ _ call
-    (omega arith) c.version_set_name.ensures is)) _ _ c.ask.ensures.adds)

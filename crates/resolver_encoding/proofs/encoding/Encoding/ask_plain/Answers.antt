@@ -3,8 +3,6 @@ use Rattle.resolver_clause_store.specs.Candidates.{version_sets}
 use Rattle.resolver_encoding.specs.Called.{IsNamedBy, IsPlainlyNamed}
 use Rattle.resolver_encoding.specs.Notes.{notes_in}
 use Rattle.resolver_encoding.proofs.EncodingLemmas.{IsAskStep-same, IsAskStep-weaker}
-use Rattle.resolver_encoding.specs.Led.{IsBarred}
-use Rattle.resolver_encoding.proofs.LedLemmas.{AddsOnly-weaker, IsBarred-weaker}
 use Rattle.resolver_encoding.proofs.encoding.Encoding.ask_plain.Goals as goal
 
 pub returns-in-Some-clause-step : goal.returns-in-Some-clause-step
@@ -16,15 +14,3 @@ returns-in_ok-ask_named-in-None-clause-step g c =
     let u = g.D.Interner.universe c.args.provider.now in
     IsAskStep-weaker u (IsNamedBy u (version_sets u c.args.requirement.requirement)) (IsPlainlyNamed u c.args.requirement) (λ n named.
     (c.in-None.is, named)) (λ root. ⊤) (λ root. ⊤) (λ root _. tt) _ _ c.in_ok-ask_named-in-None.ensures.step
-
-pub returns-in_err-ask_named-in-None-clause-adds : goal.returns-in_err-ask_named-in-None-clause-adds
-returns-in_err-ask_named-in-None-clause-adds g c = let u = g.D.Interner.universe c.args.provider.now in
-    AddsOnly-weaker (IsBarred u (IsNamedBy u (version_sets u c.args.requirement.requirement))) (IsBarred u (IsPlainlyNamed u c.args.requirement))
-    (IsBarred-weaker u (IsNamedBy u (version_sets u c.args.requirement.requirement)) (IsPlainlyNamed u c.args.requirement) (λ n named. (c.in-None.is, named)))
-    (notes_in c.args.self.now) (notes_in c.ask_named.new.self) c.ask_named.ensures.adds
-
-pub returns-in_ok-ask_named-in-None-clause-adds : goal.returns-in_ok-ask_named-in-None-clause-adds
-returns-in_ok-ask_named-in-None-clause-adds g c = let u = g.D.Interner.universe c.args.provider.now in
-    AddsOnly-weaker (IsBarred u (IsNamedBy u (version_sets u c.args.requirement.requirement))) (IsBarred u (IsPlainlyNamed u c.args.requirement))
-    (IsBarred-weaker u (IsNamedBy u (version_sets u c.args.requirement.requirement)) (IsPlainlyNamed u c.args.requirement) (λ n named. (c.in-None.is, named)))
-    (notes_in c.args.self.now) (notes_in c.ask_named.new.self) c.ask_named.ensures.adds

@@ -54,17 +54,6 @@ returns-then-is_among-2 g c =
       memory = tt;
     }
 
-pub returns-in_err-append : goal.returns-in_err-append
-returns-in_err-append g c =
-    record {
-      bounded = c.requires.bounded;
-      only = refl;
-      few = omega (arith, ap length c.in_err-append.ensures.unchanged);
-      exempts = IfOk-from_err c.from_residual.result _ c.from_residual.ensures.0;
-      stays = IfOk-from_err c.from_residual.result _ c.from_residual.ensures.0;
-      memory = IfErr-of c.from_residual.result _ _ c.from_residual.ensures.1 c.in_err-append.ensures.memory;
-    }
-
 pub returns-clause-bounded : goal.returns-clause-bounded
 returns-clause-bounded g c = c.requires.bounded
 

@@ -1,4 +1,4 @@
-use Rattle.std.proofs.Common.{sym, subst, arith, Contains, List, refl}
+use Rattle.std.proofs.Common.{sym, subst, arith, Contains, List}
 use Rattle.std.proofs.lemmas.List.Elements.{All-nil, All-same}
 use Rattle.resolver_encoding.specs.Encodings.{HasConstraint, idle}
 use Rattle.resolver_encoding.specs.Notes.{notes_in}
@@ -6,7 +6,6 @@ use Rattle.resolver_encoding.specs.Read.{IsForbidden, forbidden_direct}
 use Rattle.resolver_clause_store.proofs.SetLemmas.{All-done, Contains-item}
 use Rattle.resolver_encoding.proofs.EncodingLemmas.{IsForbidden-within, IsStep-same, IsStep-trans}
 use Rattle.resolver_encoding.proofs.NoteLemmas.{All-grown}
-use Rattle.resolver_encoding.proofs.LedLemmas.{AddsOnly-equal, AddsOnly-trans}
 use Rattle.resolver_encoding.proofs.RoomLemmas.{KeepsRoom-same, KeepsRoom-trans}
 use Rattle.resolver_encoding.proofs.encoding.Encoding.constrain_each.Goals as goal
 
@@ -14,7 +13,6 @@ pub loop-candidate-init : goal.loop-candidate-init
 loop-candidate-init g c =
     let u = g.D.Interner.universe c.args.provider.now in
     record {
-      adds = AddsOnly-equal _ _ _ refl refl;
       room = KeepsRoom-same _ c.requires.bounded;
       step = IsStep-same u idle (HasConstraint u c.args.by c.args.version_set) (notes_in c.args.self.now);
       read = All-nil (IsForbidden (notes_in c.args.self.now).kinds c.args.by c.args.version_set);
@@ -32,7 +30,6 @@ loop-candidate-preserved g c =
     let before = c.loop-candidate.invariant in
     let step = c.in_ok-constrain.ensures.step in
     record {
-      adds = AddsOnly-trans _ _ _ _ before.adds c.constrain.ensures.adds;
       room = KeepsRoom-trans _ _ _ before.room c.constrain.ensures.room;
       step = IsStep-trans u idle (HasConstraint u c.args.by c.args.version_set) _ _ _ before.step step;
       read = All-grown (IsForbidden (notes_in c.loop-candidate.self).kinds c.args.by c.args.version_set)
@@ -47,6 +44,3 @@ returns-clause-read g c =
     let Forbidden : g.row.S.Denot → Type 0 = IsForbidden (notes_in c.loop-candidate.self).kinds c.args.by c.args.version_set in
     All-same Forbidden _ c.args.forbidden.now (sym c.requires.forbidden)
     (All-done Forbidden c.args.forbidden.now c.loop-candidate.candidate-index (omega arith) c.loop-candidate.invariant.read)
-
-pub returns-in_err-constrain-clause-adds : goal.returns-in_err-constrain-clause-adds
-returns-in_err-constrain-clause-adds g c = AddsOnly-trans _ _ _ _ c.loop-candidate.invariant.adds c.constrain.ensures.adds

@@ -2,8 +2,6 @@ use Rattle.std.proofs.Common.{All, take}
 use Rattle.resolver_encoding.specs.Encodings.{HasConstraint, IsStepWhile, idle}
 use Rattle.resolver_encoding.specs.Notes.{KeepsRoom, notes_in}
 use Rattle.resolver_encoding.specs.Read.{IsForbidden}
-use Rattle.std.proofs.Common.{◌∷◌, []}
-use Rattle.resolver_encoding.specs.Led.{AddsOnly, IsOwn, with_constraints}
 use Rattle.resolver_encoding.proofs.encoding.Encoding.constrain_each.Given as goal
 
 abbrev pub invariant-loop-candidate : goal.invariant-loop-candidate
@@ -12,5 +10,4 @@ invariant-loop-candidate g l = record {
   step : IsStepWhile (g.D.Interner.universe l.provider) idle (HasConstraint (g.D.Interner.universe l.provider) l.by l.version_set) (notes_in l.fn.self)
       (notes_in l.self);
   read : All (IsForbidden (notes_in l.self).kinds l.by l.version_set) (take l.candidate-index l.forbidden);
-  adds : AddsOnly (IsOwn (g.D.Interner.universe l.provider) l.by (with_constraints (l.version_set ∷ []))) (notes_in l.fn.self) (notes_in l.self);
 }

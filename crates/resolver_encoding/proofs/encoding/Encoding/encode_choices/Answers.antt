@@ -11,8 +11,6 @@ use Rattle.resolver_encoding.specs.Encodings.{AddsKind, IsTrueUnder, idle}
 use Rattle.resolver_encoding.specs.Notes.{notes_in}
 use Rattle.resolver_encoding.proofs.EncodingLemmas.{IsStep-trans, IsStep-weaker, clause_listed}
 use Rattle.resolver_encoding.proofs.NoteLemmas.{IsStep-kind}
-use Rattle.resolver_encoding.proofs.LedLemmas.{AddsOnly-trans, AddsOnly-weaker, helped_choices}
-use Rattle.resolver_encoding.proofs.TableLemmas.{equal_mentions}
 use Rattle.resolver_encoding.proofs.encoding.Encoding.encode_choices.Goals as goal
 
 pub returns-clause-step : goal.returns-clause-step
@@ -46,39 +44,6 @@ returns-clause-read g c =
     let Listed : List VersionSetId → Type 0 = λ d. Contains (notes_in c.add_with.new.self).kinds (Requires c.args.by d c.args.requirement) in
     subst Listed c.new.ensures
     (clause_listed u (notes_in c.help_each.new.self) (notes_in c.add_with.new.self) _ (c.in_ok-add_with.ensures.added u c.requires.candidates))
-
-pub returns-clause-adds : goal.returns-clause-adds
-returns-clause-adds g c =
-    let u = g.D.Interner.universe c.args.provider.now in
-    AddsOnly-trans _ _ _ _ (helped_choices u c.args.by c.args.requirement c.args.disjunct.items c.deref.result.now c.deref.ensures.value
-    (notes_in c.args.self.now) (notes_in c.help_each.new.self) c.help_each.ensures.adds)
-    (AddsOnly-weaker _ _ (equal_mentions u c.args.by c.new.result c.args.disjunct.items c.args.requirement c.new.ensures) _ _ (c.add_with.ensures.adds u c.requires.candidates))
-
-pub returns-in_err-help_each : goal.returns-in_err-help_each
-returns-in_err-help_each g c =
-    record {
-      room = c.help_each.ensures.room;
-      is_true = c.help_each.ensures.is_true;
-      step = IfOk-from_err c.from_residual.result _ c.from_residual.ensures.0;
-      read = IfOk-from_err c.from_residual.result _ c.from_residual.ensures.0;
-      adds = (helped_choices (g.D.Interner.universe c.args.provider.now) c.args.by c.args.requirement c.args.disjunct.items c.deref.result.now c.deref.ensures.value
-          (notes_in c.args.self.now) (notes_in c.help_each.new.self) c.help_each.ensures.adds);
-      refusal = IfErr-of c.from_residual.result _ _ c.from_residual.ensures.1 c.in_err-help_each.ensures.refusal;
-    }
-
-pub returns-in_err-add_with : goal.returns-in_err-add_with
-returns-in_err-add_with g c =
-    record {
-      room = KeepsRoom-trans _ _ _ c.help_each.ensures.room c.add_with.ensures.room;
-      is_true = c.help_each.ensures.is_true;
-      step = IfOk-from_err c.from_residual-in_err-add_with.result _ c.from_residual-in_err-add_with.ensures.0;
-      read = IfOk-from_err c.from_residual-in_err-add_with.result _ c.from_residual-in_err-add_with.ensures.0;
-      adds = let u = g.D.Interner.universe c.args.provider.now in
-          AddsOnly-trans _ _ _ _ (helped_choices u c.args.by c.args.requirement c.args.disjunct.items c.deref.result.now c.deref.ensures.value
-          (notes_in c.args.self.now) (notes_in c.help_each.new.self) c.help_each.ensures.adds)
-          (AddsOnly-weaker _ _ (equal_mentions u c.args.by c.new.result c.args.disjunct.items c.args.requirement c.new.ensures) _ _ (c.add_with.ensures.adds u c.requires.candidates));
-      refusal = IfErr-of c.from_residual-in_err-add_with.result _ _ c.from_residual-in_err-add_with.ensures.1 c.in_err-add_with.ensures.refusal;
-    }
 
 pub returns-clause-room : goal.returns-clause-room
 returns-clause-room g c = KeepsRoom-trans _ _ _ c.help_each.ensures.room c.add_with.ensures.room

@@ -3,14 +3,10 @@ use Rattle.std.specs.Prelude.{⊤}
 use Rattle.std.proofs.lemmas.Result.{IfOk-from_err}
 use Rattle.resolver_encoding.proofs.RefusalLemmas.{IfErr-of}
 use Rattle.resolver_encoding.proofs.RoomLemmas.{KeepsRoom-trans}
-use Rattle.resolver_encoding.specs.Called.{IsWantedBy, to_see}
+use Rattle.resolver_encoding.specs.Called.{IsWantedBy}
 use Rattle.resolver_encoding.specs.Encodings.{IsTrueUnder}
 use Rattle.resolver_encoding.specs.ReadState.{has_direct}
 use Rattle.resolver_encoding.proofs.EncodingLemmas.{IsAskStep-of, IsAskStep-trans, IsAskStep-weaker}
-use Rattle.resolver_clause_store.specs.declared.Origin.{Origin}
-use Rattle.resolver_encoding.specs.Led.{IsHelped, NoneOwn}
-use Rattle.resolver_encoding.specs.Notes.{notes_in}
-use Rattle.resolver_encoding.proofs.LedLemmas.{Brings-trans, Brings-weaker, choices_brings}
 use Rattle.resolver_encoding.proofs.encoding.Encoding.encode_disjunct.Goals as goal
 
 pub returns-clause-step : goal.returns-clause-step
@@ -23,54 +19,6 @@ returns-clause-step g c =
 
 pub returns-clause-read : goal.returns-clause-read
 returns-clause-read g c = has_direct c.args.disjunct.items refl c.in_ok-encode_choices.ensures.read
-
-pub returns-clause-brings : goal.returns-clause-brings
-returns-clause-brings g c = λ root before.
-    let u = g.D.Interner.universe c.args.provider.now in
-    let r = c.args.requirement in
-    let Own : Origin g.row.N.Denot g.row.S.Denot → Type 0 = IsHelped u c.args.by c.args.disjunct.items in
-    let old = notes_in c.args.self.now in
-    let mid = notes_in c.choose.new.self in
-    let chosen = Brings-weaker u (IsWantedBy u r) (IsWantedBy u r) (λ call h. h) NoneOwn Own (λ o h. absurd h) old mid (c.choose.ensures.brings root before) in
-    Brings-trans u (IsWantedBy u r) Own old mid (notes_in c.encode_choices.new.self) (λ s h. c.in_ok-choices.ensures.step.called (to_see s) h) chosen
-    (choices_brings u Own Own r mid (notes_in c.encode_choices.new.self) (λ o h. h) c.encode_choices.ensures.adds)
-
-pub returns-in_err-choices : goal.returns-in_err-choices
-returns-in_err-choices g c =
-    record {
-      room = c.choose.ensures.room;
-      is_true = c.choose.ensures.is_true;
-      step = IfOk-from_err c.from_residual.result _ c.from_residual.ensures.0;
-      read = IfOk-from_err c.from_residual.result _ c.from_residual.ensures.0;
-      brings = λ root before.
-          let u = g.D.Interner.universe c.args.provider.now in
-          let r = c.args.requirement in
-          let Own : Origin g.row.N.Denot g.row.S.Denot → Type 0 = IsHelped u c.args.by c.args.disjunct.items in
-          let old = notes_in c.args.self.now in
-          let mid = notes_in c.choose.new.self in
-          let chosen = Brings-weaker u (IsWantedBy u r) (IsWantedBy u r) (λ call h. h) NoneOwn Own (λ o h. absurd h) old mid (c.choose.ensures.brings root before) in
-          chosen;
-      refusal = IfErr-of c.from_residual.result _ _ c.from_residual.ensures.1 c.in_err-choices.ensures.refusal;
-    }
-
-pub returns-in_err-encode_choices : goal.returns-in_err-encode_choices
-returns-in_err-encode_choices g c =
-    record {
-      room = KeepsRoom-trans _ _ _ c.choose.ensures.room c.encode_choices.ensures.room;
-      is_true = c.encode_choices.ensures.is_true;
-      step = IfOk-from_err c.from_residual-in_err-encode_choices.result _ c.from_residual-in_err-encode_choices.ensures.0;
-      read = IfOk-from_err c.from_residual-in_err-encode_choices.result _ c.from_residual-in_err-encode_choices.ensures.0;
-      brings = λ root before.
-          let u = g.D.Interner.universe c.args.provider.now in
-          let r = c.args.requirement in
-          let Own : Origin g.row.N.Denot g.row.S.Denot → Type 0 = IsHelped u c.args.by c.args.disjunct.items in
-          let old = notes_in c.args.self.now in
-          let mid = notes_in c.choose.new.self in
-          let chosen = Brings-weaker u (IsWantedBy u r) (IsWantedBy u r) (λ call h. h) NoneOwn Own (λ o h. absurd h) old mid (c.choose.ensures.brings root before) in
-          Brings-trans u (IsWantedBy u r) Own old mid (notes_in c.encode_choices.new.self) (λ s h. c.in_ok-choices.ensures.step.called (to_see s) h) chosen
-          (choices_brings u Own Own r mid (notes_in c.encode_choices.new.self) (λ o h. h) c.encode_choices.ensures.adds);
-      refusal = IfErr-of c.from_residual-in_err-encode_choices.result _ _ c.from_residual-in_err-encode_choices.ensures.1 c.in_err-encode_choices.ensures.refusal;
-    }
 
 pub returns-clause-room : goal.returns-clause-room
 returns-clause-room g c =

@@ -11,13 +11,3 @@ returns-in_ok-restore-in-Some-clause-ended g c =
     IsTurnEnd-restored u c.in-Some.solvable (notes_in c.args.self.now) shorter
     (c.pop.ensures.keys ∙ ap (λ o. shorter ++ option_to_list o) c.in-Some.is) g.S.PartialEq.eq g.met.D.Interner.solvables_are_values
     (notes_in c.restore.new.self) c.in_ok-restore-in-Some.ensures.restored c.in_ok-restore-in-Some.ensures.step c.in_ok-restore-in-Some.ensures.plain
-
-pub returns-in_err-restore-in-Some-clause-adds : goal.returns-in_err-restore-in-Some-clause-adds
-returns-in_err-restore-in-Some-clause-adds g c =
-    let restored = c.restore.ensures.adds in
-    record { origins = record { only = restored.origins.only }; deferred = restored.deferred }
-
-pub returns-in_ok-restore-in-Some-clause-adds : goal.returns-in_ok-restore-in-Some-clause-adds
-returns-in_ok-restore-in-Some-clause-adds g c =
-    let restored = c.restore.ensures.adds in
-    record { origins = record { only = restored.origins.only }; deferred = restored.deferred }

@@ -5,8 +5,6 @@ use Rattle.resolver_encoding.specs.Notes.{notes_in}
 use Rattle.resolver_encoding.proofs.EncodingLemmas.{clause_listed}
 use Rattle.resolver_encoding.proofs.NoteLemmas.{IsStep-kind}
 use Rattle.resolver_encoding.proofs.TurnLemmas.{AddsPlainly-clause}
-use Rattle.resolver_encoding.proofs.LedLemmas.{AddsOnly-weaker, excluded_barred}
-use Rattle.resolver_encoding.proofs.TableLemmas.{mentioned_one}
 use Rattle.resolver_encoding.proofs.encoding.Encoding.exclude.Goals as goal
 
 pub returns-clause-step : goal.returns-clause-step
@@ -30,15 +28,3 @@ returns-clause-plain g c =
 
 pub returns-clause-asked : goal.returns-clause-asked
 returns-clause-asked g c = ap (λ n. n.asked) (c.in_ok-add.ensures.added (g.D.Interner.universe c.args.provider.now) refl).is
-
-pub returns-in_err-add-clause-adds : goal.returns-in_err-add-clause-adds
-returns-in_err-add-clause-adds g c =
-    let u = g.D.Interner.universe c.args.provider.now in
-    AddsOnly-weaker _ _ (λ o is. excluded_barred u c.args.name c.args.solvable c.args.reason c.requires.named c.requires.excluded o (mentioned_one _ o is)) _ _
-    (c.add.ensures.adds u refl)
-
-pub returns-clause-adds : goal.returns-clause-adds
-returns-clause-adds g c =
-    let u = g.D.Interner.universe c.args.provider.now in
-    AddsOnly-weaker _ _ (λ o is. excluded_barred u c.args.name c.args.solvable c.args.reason c.requires.named c.requires.excluded o (mentioned_one _ o is)) _ _
-    (c.add.ensures.adds u refl)

@@ -9,13 +9,11 @@ use Rattle.resolver_encoding.proofs.EncodingLemmas.{IsStep-same, IsStep-trans}
 use Rattle.resolver_encoding.proofs.NoteLemmas.{All-grown}
 use Rattle.resolver_encoding.proofs.TurnLemmas.{AddsPlainly-same, AddsPlainly-trans}
 use Rattle.resolver_clause_store.proofs.ListLemmas.{Contains-here as here}
-use Rattle.resolver_encoding.proofs.LedLemmas.{AddsOnly-equal, AddsOnly-trans}
 use Rattle.resolver_encoding.proofs.RoomLemmas.{KeepsRoom-same, KeepsRoom-trans}
 use Rattle.resolver_encoding.proofs.encoding.Encoding.exclude_each.Goals as goal
 
 pub loop-solvable-init : goal.loop-solvable-init
 loop-solvable-init g c = record {
-  adds = AddsOnly-equal _ _ _ refl refl;
   room = KeepsRoom-same _ c.requires.bounded;
   step = IsStep-same (g.D.Interner.universe c.args.provider.now) (asking_for c.args.name) (λ root. ⊤) (notes_in c.args.self.now);
   read = All-nil (λ e. (Contains (notes_in c.args.self.now).exempt e.0 → ⊥) → Contains (notes_in c.args.self.now).kinds (Excluded e.0 e.1));
@@ -46,7 +44,6 @@ loop-solvable-preserved g c =
     let Free : List _ → Type 0 = λ list. (Contains list c.loop-solvable-item.result.0 → ⊥) →
     Contains (notes_in c.exclude.new.self).kinds (Excluded c.loop-solvable-item.result.0 c.loop-solvable-item.result.1) in
     record {
-      adds = AddsOnly-trans _ _ _ _ before.adds c.exclude.ensures.adds;
       room = KeepsRoom-trans _ _ _ before.room c.exclude.ensures.room;
       step = IsStep-trans u (asking_for c.args.name) (λ root. ⊤) _ _ _ before.step step;
       read = All-grown (λ e. (Contains (notes_in c.args.self.now).exempt e.0 → ⊥) → Contains (notes_in c.loop-solvable.self).kinds (Excluded e.0 e.1)) (λ e.
@@ -63,6 +60,3 @@ returns-clause-read g c = All-done (λ e.
     (Contains (notes_in c.args.self.now).exempt e.0 → ⊥) →
     Contains (notes_in c.loop-solvable.self).kinds (Excluded e.0 e.1)) c.args.excluded.now c.loop-solvable.solvable-index
     (omega arith) c.loop-solvable.invariant.read
-
-pub returns-in_err-exclude-clause-adds : goal.returns-in_err-exclude-clause-adds
-returns-in_err-exclude-clause-adds g c = AddsOnly-trans _ _ _ _ c.loop-solvable.invariant.adds c.exclude.ensures.adds

@@ -4,8 +4,6 @@ use Rattle.resolver_clause_store.specs.declared.ClauseKind.TheVariants.{Excluded
 use Rattle.resolver_encoding.specs.Encodings.{IsStepWhile, asking_for}
 use Rattle.resolver_encoding.specs.Notes.{KeepsRoom, notes_in}
 use Rattle.resolver_encoding.specs.Turns.{AddsPlainly}
-use Rattle.resolver_encoding.specs.Led.{AddsOnly, IsBarred}
-use Rattle.resolver_encoding.specs.Called.{IsAsking}
 use Rattle.resolver_encoding.proofs.encoding.Encoding.exclude_each.Given as goal
 
 abbrev pub invariant-loop-solvable : goal.invariant-loop-solvable
@@ -15,5 +13,4 @@ invariant-loop-solvable g l = record {
   read : All (λ e. (Contains (notes_in l.fn.self).exempt e.0 → ⊥) → Contains (notes_in l.self).kinds (Excluded e.0 e.1)) (take l.solvable-index l.excluded);
   plain : AddsPlainly (notes_in l.fn.self) (notes_in l.self);
   asked : (notes_in l.self).asked ≡ (notes_in l.fn.self).asked;
-  adds : AddsOnly (IsBarred (g.D.Interner.universe l.provider) (IsAsking l.name)) (notes_in l.fn.self) (notes_in l.self);
 }

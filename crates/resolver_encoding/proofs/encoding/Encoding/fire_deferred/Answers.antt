@@ -2,10 +2,6 @@ use Rattle.std.proofs.Common.{arith, refl}
 use Rattle.std.proofs.lemmas.Option.{slice_get_read}
 use Rattle.resolver_encoding.specs.Notes.{notes_in}
 use Rattle.resolver_encoding.proofs.FiringLemmas.{AreQuiet-done, AreQuiet-more, HasFired-trans, IsFiring-trans, groups_kept}
-use Rattle.resolver_encoding.specs.Called.{to_see}
-use Rattle.resolver_encoding.specs.Led.{IsFired, NoneOwn}
-use Rattle.resolver_encoding.proofs.LedLemmas.{Brings-trans, Brings-weaker}
-use Rattle.resolver_encoding.proofs.LedReading.{fired_before}
 use Rattle.resolver_encoding.proofs.RoomLemmas.{KeepsRoom-trans}
 use Rattle.resolver_encoding.proofs.encoding.Encoding.fire_deferred.Goals as goal
 
@@ -18,16 +14,6 @@ loop-place-preserved g c =
     let two = notes_in c.loop-place.self in
     let three = notes_in c.fire_named.new.self in
     record {
-      brings =
-          let u = g.D.Interner.universe c.args.provider.now in
-          let set = c.args.chosen.now.keys in
-          let one = notes_in c.args.self.now in
-          let two = notes_in c.loop-place.self in
-          let three = notes_in c.fire_named.new.self in
-          let here = c.loop-place.invariant in
-          Brings-trans u (IsFired u set one) NoneOwn one two three (λ s h. here.firing.called (to_see s) h) here.brings
-          (Brings-weaker u (IsFired u set two) (IsFired u set one) (fired_before u set one two here.firing) NoneOwn NoneOwn (λ o h.
-          h) two three c.fire_named.ensures.brings);
       room = KeepsRoom-trans _ _ _ before.room c.fire_named.ensures.room;
       is_true = c.fire_named.ensures.is_true;
       firing = IsFiring-trans u set one two three before.firing c.in_ok-any.ensures.firing;
@@ -43,15 +29,3 @@ returns-clause-quiet g c sound =
     let u = g.D.Interner.universe c.args.provider.now in
     AreQuiet-done u c.args.chosen.now.keys (notes_in c.loop-place.self) c.args.from c.loop-place.place (omega (arith, c.len-place-end.ensures.len))
     (c.loop-place.invariant.quiet sound)
-
-pub returns-in_err-any-clause-brings : goal.returns-in_err-any-clause-brings
-returns-in_err-any-clause-brings g c =
-    let u = g.D.Interner.universe c.args.provider.now in
-    let set = c.args.chosen.now.keys in
-    let one = notes_in c.args.self.now in
-    let two = notes_in c.loop-place.self in
-    let three = notes_in c.fire_named.new.self in
-    let here = c.loop-place.invariant in
-    Brings-trans u (IsFired u set one) NoneOwn one two three (λ s h. here.firing.called (to_see s) h) here.brings
-    (Brings-weaker u (IsFired u set two) (IsFired u set one) (fired_before u set one two here.firing) NoneOwn NoneOwn (λ o h.
-    h) two three c.fire_named.ensures.brings)

@@ -1,12 +1,9 @@
 use Rattle.std.proofs.Common.{refl}
 use Rattle.resolver_clause_store.specs.declared.ClauseKind.TheVariants.{ConstrainsParent}
-use Rattle.resolver_encoding.specs.Atoms.{origin_by}
 use Rattle.resolver_encoding.specs.Encodings.{HasConstraint, idle}
 use Rattle.resolver_encoding.specs.Notes.{notes_in}
 use Rattle.resolver_encoding.proofs.EncodingLemmas.{clause_listed}
 use Rattle.resolver_encoding.proofs.NoteLemmas.{IsStep-kind}
-use Rattle.resolver_encoding.proofs.LedLemmas.{AddsOnly-weaker, parent_own}
-use Rattle.resolver_encoding.proofs.TableLemmas.{mentioned_two}
 use Rattle.resolver_encoding.proofs.encoding.Encoding.forbid_helper.Goals as goal
 
 pub returns-clause-step : goal.returns-clause-step
@@ -19,15 +16,3 @@ pub returns-clause-forbidden : goal.returns-clause-forbidden
 returns-clause-forbidden g c =
     let u = g.D.Interner.universe c.args.provider.now in
     clause_listed u (notes_in c.args.self.now) _ _ (c.in_ok-add.ensures.added u refl)
-
-pub returns-in_err-add-clause-adds : goal.returns-in_err-add-clause-adds
-returns-in_err-add-clause-adds g c =
-    let u = g.D.Interner.universe c.args.provider.now in
-    AddsOnly-weaker _ _ (λ o is. parent_own u c.args.by c.args.version_set (origin_by c.args.by) o refl (mentioned_two _ _ o is)) _ _
-    (c.add.ensures.adds u refl)
-
-pub returns-clause-adds : goal.returns-clause-adds
-returns-clause-adds g c =
-    let u = g.D.Interner.universe c.args.provider.now in
-    AddsOnly-weaker _ _ (λ o is. parent_own u c.args.by c.args.version_set (origin_by c.args.by) o refl (mentioned_two _ _ o is)) _ _
-    (c.add.ensures.adds u refl)

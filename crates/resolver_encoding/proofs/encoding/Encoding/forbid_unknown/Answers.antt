@@ -5,8 +5,6 @@ use Rattle.resolver_encoding.specs.Encodings.{idle}
 use Rattle.resolver_encoding.specs.Notes.{notes_in}
 use Rattle.resolver_encoding.proofs.EncodingLemmas.{clause_listed}
 use Rattle.resolver_encoding.proofs.NoteLemmas.{IsStep-kind}
-use Rattle.resolver_encoding.proofs.LedLemmas.{AddsOnly-weaker}
-use Rattle.resolver_encoding.proofs.TableLemmas.{mentioned_one}
 use Rattle.resolver_encoding.proofs.encoding.Encoding.forbid_unknown.Goals as goal
 
 pub returns-clause-step : goal.returns-clause-step
@@ -19,13 +17,3 @@ pub returns-clause-forbidden : goal.returns-clause-forbidden
 returns-clause-forbidden g c =
     let u = g.D.Interner.universe c.args.provider.now in
     clause_listed u (notes_in c.args.self.now) _ _ (c.in_ok-add.ensures.added u refl)
-
-pub returns-in_err-add-clause-adds : goal.returns-in_err-add-clause-adds
-returns-in_err-add-clause-adds g c =
-    let u = g.D.Interner.universe c.args.provider.now in
-    AddsOnly-weaker _ _ (λ o is. mentioned_one _ o is) _ _ (c.add.ensures.adds u refl)
-
-pub returns-clause-adds : goal.returns-clause-adds
-returns-clause-adds g c =
-    let u = g.D.Interner.universe c.args.provider.now in
-    AddsOnly-weaker _ _ (λ o is. mentioned_one _ o is) _ _ (c.add.ensures.adds u refl)

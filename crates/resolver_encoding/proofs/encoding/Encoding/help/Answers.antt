@@ -1,4 +1,4 @@
-use Rattle.std.proofs.Common.{sym, subst, All, Contains, List, refl}
+use Rattle.std.proofs.Common.{sym, subst, All, Contains, List}
 use Rattle.std.specs.Prelude.{⊤}
 use Rattle.std.proofs.lemmas.List.Elements.{All-contains, Contains-push}
 use Rattle.resolver_clause_store.specs.Candidates.{matching}
@@ -9,14 +9,12 @@ use Rattle.resolver_encoding.specs.Encodings.{idle}
 use Rattle.resolver_encoding.specs.Notes.{notes_in}
 use Rattle.resolver_encoding.proofs.EncodingLemmas.{IsStep-trans}
 use Rattle.resolver_encoding.proofs.NoteLemmas.{IsStep-helped}
-use Rattle.resolver_encoding.proofs.LedLemmas.{AddsOnly-same_as}
 use Rattle.std.proofs.lemmas.Result.{IfOk-from_err}
 use Rattle.resolver_encoding.proofs.RefusalLemmas.{IfErr-of}
 use Rattle.resolver_encoding.proofs.RefusalLemmas.{IfErr-stop}
 use Rattle.resolver_encoding.proofs.RefusalLemmas.{shortage_of_memory}
 use Rattle.resolver_encoding.proofs.RoomLemmas.{KeepsRoom-same}
 use Rattle.resolver_encoding.proofs.EncodingLemmas.{IsStep-same}
-use Rattle.resolver_encoding.proofs.LedLemmas.{AddsOnly-equal}
 use Rattle.resolver_encoding.proofs.encoding.Encoding.help.Goals as goal
 
 pub append-requires-clause-absent : goal.append-requires-clause-absent
@@ -30,43 +28,7 @@ returns-then-is_among g c =
       is_true = c.requires.is_true;
       step = IsStep-same (g.D.Interner.universe c.args.provider.now) idle (λ root. ⊤) (notes_in c.args.self.now);
       helped = c.if-is_among.ensures;
-      adds = AddsOnly-equal _ _ _ refl refl;
       refusal = tt;
-    }
-
-pub returns-in_err-fetch_matching : goal.returns-in_err-fetch_matching
-returns-in_err-fetch_matching g c =
-    record {
-      room = KeepsRoom-same _ c.requires.bounded;
-      is_true = c.fetch_matching.ensures.is_true;
-      step = IfOk-from_err c.from_residual.result _ c.from_residual.ensures.0;
-      helped = IfOk-from_err c.from_residual.result _ c.from_residual.ensures.0;
-      adds = AddsOnly-equal _ _ _ refl refl;
-      refusal = IfErr-stop c.from_residual.result (g.D.DependencyProvider.may_cancel c.args.provider.now) _
-          c.in_err-fetch_matching.field-0.0 c.from_residual.ensures.1 c.in_err-fetch_matching.ensures.refusal;
-    }
-
-pub returns-in_err-imply_each : goal.returns-in_err-imply_each
-returns-in_err-imply_each g c =
-    record {
-      room = c.imply_each.ensures.room;
-      is_true = c.fetch_matching.ensures.is_true;
-      step = IfOk-from_err c.from_residual-in_err-imply_each.result _ c.from_residual-in_err-imply_each.ensures.0;
-      helped = IfOk-from_err c.from_residual-in_err-imply_each.result _ c.from_residual-in_err-imply_each.ensures.0;
-      adds = c.imply_each.ensures.adds;
-      refusal = IfErr-of c.from_residual-in_err-imply_each.result _ _ c.from_residual-in_err-imply_each.ensures.1 c.in_err-imply_each.ensures.refusal;
-    }
-
-pub returns-in_err-append : goal.returns-in_err-append
-returns-in_err-append g c =
-    record {
-      adds = AddsOnly-same_as _ (notes_in c.args.self.now) (notes_in c.imply_each.new.self) _ c.imply_each.ensures.adds refl refl;
-      room = (let it = c.imply_each.ensures.room in record { bounded = it.bounded; variables = it.variables; clauses = it.clauses });
-      is_true = c.fetch_matching.ensures.is_true;
-      step = IfOk-from_err c.from_residual-in_err-append.result _ c.from_residual-in_err-append.ensures.0;
-      helped = IfOk-from_err c.from_residual-in_err-append.result _ c.from_residual-in_err-append.ensures.0;
-      refusal = IfErr-of c.from_residual-in_err-append.result _ _ c.from_residual-in_err-append.ensures.1
-          (shortage_of_memory _ _ c.in_err-append.ensures.memory);
     }
 
 pub returns : goal.returns
@@ -82,7 +44,6 @@ returns g c =
           All-contains (λ t. Contains mid.kinds (AnyOf (ConditionHelper v) t)) (matching u v) s (subst AllFollow answer c.in_ok-imply_each.ensures.follow) h));
       helped = let Has : List VersionSetId → Type 0 = λ list. Contains list c.args.version_set in
           subst Has (sym c.in_ok-append.ensures.keys) (Contains-push c.imply_each.new.self.helped.keys c.args.version_set);
-      adds = AddsOnly-same_as _ (notes_in c.args.self.now) (notes_in c.imply_each.new.self) _ c.imply_each.ensures.adds refl refl;
       room = (let it = c.imply_each.ensures.room in record { bounded = it.bounded; variables = it.variables; clauses = it.clauses });
       is_true = c.fetch_matching.ensures.is_true;
       refusal = tt;

@@ -1,4 +1,4 @@
-use Rattle.std.proofs.Common.{arith, Contains, refl}
+use Rattle.std.proofs.Common.{arith, Contains}
 use Rattle.std.specs.Prelude.{⊤}
 use Rattle.std.proofs.lemmas.List.Elements.{All-nil}
 use Rattle.resolver_encoding.specs.Encodings.{idle}
@@ -6,8 +6,6 @@ use Rattle.resolver_encoding.specs.Notes.{notes_in}
 use Rattle.resolver_clause_store.proofs.SetLemmas.{All-done}
 use Rattle.resolver_encoding.proofs.EncodingLemmas.{IsStep-same, IsStep-trans}
 use Rattle.resolver_encoding.proofs.NoteLemmas.{All-grown_at}
-use Rattle.std.proofs.lemmas.List.Elements.{Contains-get_or}
-use Rattle.resolver_encoding.proofs.LedLemmas.{AddsOnly-equal, AddsOnly-trans, AddsOnly-weaker}
 use Rattle.resolver_encoding.proofs.RoomLemmas.{KeepsRoom-same, KeepsRoom-trans}
 use Rattle.resolver_encoding.proofs.encoding.Encoding.help_each.Goals as goal
 
@@ -15,7 +13,6 @@ pub loop-version_set-init : goal.loop-version_set-init
 loop-version_set-init g c =
     let u = g.D.Interner.universe c.args.provider.now in
     record {
-      adds = AddsOnly-equal _ _ _ refl refl;
       room = KeepsRoom-same _ c.requires.bounded;
       step = IsStep-same u idle (λ root. ⊤) (notes_in c.args.self.now);
       helped = All-nil (Contains (notes_in c.args.self.now).helped);
@@ -27,12 +24,6 @@ loop-version_set-preserved g c =
     let u = g.D.Interner.universe c.args.provider.now in
     let before = c.loop-version_set.invariant in
     record {
-      adds = AddsOnly-trans _ _ _ _ before.adds
-          (AddsOnly-weaker _ _ (λ o is. (
-            _,
-            Contains-get_or c.args.disjunct.now c.loop-version_set.version_set-index _ (omega arith),
-            is,
-          )) _ _ c.help.ensures.adds);
       room = KeepsRoom-trans _ _ _ before.room c.help.ensures.room;
       step = IsStep-trans u idle (λ root. ⊤) _ _ _ before.step c.in_ok-help.ensures.step;
       helped = All-grown_at (Contains c.loop-version_set.self.helped.keys)
@@ -44,8 +35,3 @@ loop-version_set-preserved g c =
 pub returns-clause-helped : goal.returns-clause-helped
 returns-clause-helped g c = All-done (Contains c.loop-version_set.self.helped.keys) c.args.disjunct.now c.loop-version_set.version_set-index
     (omega arith) c.loop-version_set.invariant.helped
-
-pub returns-in_err-help-clause-adds : goal.returns-in_err-help-clause-adds
-returns-in_err-help-clause-adds g c =
-    AddsOnly-trans _ _ _ _ c.loop-version_set.invariant.adds
-    (AddsOnly-weaker _ _ (λ o is. (_, Contains-get_or c.args.disjunct.now c.loop-version_set.version_set-index _ (omega arith), is)) _ _ c.help.ensures.adds)

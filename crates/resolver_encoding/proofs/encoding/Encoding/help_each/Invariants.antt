@@ -3,8 +3,6 @@ use Rattle.std.specs.Prelude.{⊤}
 use Rattle.resolver_clause_store.specs.Caches.{IsTrueCache}
 use Rattle.resolver_encoding.specs.Encodings.{IsStepWhile, idle}
 use Rattle.resolver_encoding.specs.Notes.{KeepsRoom, notes_in}
-use Rattle.resolver_encoding.specs.Led.{AddsOnly, IsOfHelper}
-use Rattle.resolver_clause_store.specs.declared.VersionSetId.{VersionSetId}
 use Rattle.resolver_encoding.proofs.encoding.Encoding.help_each.Given as goal
 
 abbrev pub invariant-loop-version_set : goal.invariant-loop-version_set
@@ -13,5 +11,4 @@ invariant-loop-version_set g l = record {
   step : IsStepWhile (g.D.Interner.universe l.provider) idle (λ root. ⊤) (notes_in l.fn.self) (notes_in l.self);
   helped : All (Contains (notes_in l.self).helped) (take l.version_set-index l.disjunct);
   is_true : IsTrueCache (g.D.Interner.universe l.provider) l.cache;
-  adds : AddsOnly (λ o. (v : VersionSetId) × Contains l.disjunct v × IsOfHelper (g.D.Interner.universe l.provider) v o) (notes_in l.fn.self) (notes_in l.self);
 }

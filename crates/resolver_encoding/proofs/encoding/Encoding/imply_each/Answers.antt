@@ -12,14 +12,11 @@ use Rattle.resolver_clause_store.proofs.SetLemmas.{All-done, Contains-item}
 use Rattle.resolver_encoding.proofs.EncodingLemmas.{IsStep-same, IsStep-trans, clause_listed}
 use Rattle.resolver_encoding.proofs.NoteLemmas.{All-grown, IsStep-kind}
 use Rattle.resolver_clause_store.proofs.ListLemmas.{list_any-contains}
-use Rattle.resolver_encoding.proofs.LedLemmas.{AddsOnly-equal, AddsOnly-trans, AddsOnly-weaker, helper_pair}
-use Rattle.resolver_encoding.proofs.TableLemmas.{mentioned_two}
 use Rattle.resolver_encoding.proofs.RoomLemmas.{KeepsRoom-same, KeepsRoom-trans}
 use Rattle.resolver_encoding.proofs.encoding.Encoding.imply_each.Goals as goal
 
 pub loop-candidate-init : goal.loop-candidate-init
 loop-candidate-init g c = record {
-  adds = AddsOnly-equal _ _ _ refl refl;
   room = KeepsRoom-same _ c.requires.bounded;
   step = IsStep-same (g.D.Interner.universe c.args.provider.now) idle (λ root. ⊤) (notes_in c.args.self.now);
   follow = All-nil (λ s. Contains (notes_in c.args.self.now).kinds (AnyOf (ConditionHelper c.args.version_set) s));
@@ -42,10 +39,6 @@ loop-candidate-preserved g c =
     (AnyOf (ConditionHelper v) s) adds (λ root _ _ codes _.
     (tt, list_any-contains (u.same_solvable s) (matching u v) s matches (identity.itself s))) tt tt tt in
     record {
-      adds = AddsOnly-trans _ _ _ _ before.adds
-          (AddsOnly-weaker _ _ (λ o is. helper_pair u c.args.version_set c.candidate-item.result
-          (rw c.requires.candidates at (Contains-item c.args.candidates.now c.loop-candidate.candidate-index c.candidate-item.result
-          (omega arith) c.candidate-item.is)) o (mentioned_two _ _ o is)) _ _ (c.add.ensures.adds u refl));
       room = KeepsRoom-trans _ _ _ before.room c.add.ensures.room;
       step = IsStep-trans u idle (λ root. ⊤) _ _ _ before.step step;
       follow = All-grown (λ t. Contains (notes_in c.loop-candidate.self).kinds (AnyOf (ConditionHelper v) t)) (λ t.
@@ -59,11 +52,3 @@ pub returns-clause-follow : goal.returns-clause-follow
 returns-clause-follow g c = All-done (λ t.
     Contains (notes_in c.loop-candidate.self).kinds (AnyOf (ConditionHelper c.args.version_set) t)) c.args.candidates.now c.loop-candidate.candidate-index
     (omega arith) c.loop-candidate.invariant.follow
-
-pub returns-in_err-add-clause-adds : goal.returns-in_err-add-clause-adds
-returns-in_err-add-clause-adds g c =
-    let u = g.D.Interner.universe c.args.provider.now in
-    AddsOnly-trans _ _ _ _ c.loop-candidate.invariant.adds
-    (AddsOnly-weaker _ _ (λ o is. helper_pair u c.args.version_set c.candidate-item.result
-    (rw c.requires.candidates at (Contains-item c.args.candidates.now c.loop-candidate.candidate-index c.candidate-item.result
-    (omega arith) c.candidate-item.is)) o (mentioned_two _ _ o is)) _ _ (c.add.ensures.adds u refl))

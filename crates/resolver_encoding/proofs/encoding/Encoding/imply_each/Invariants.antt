@@ -4,7 +4,6 @@ use Rattle.resolver_clause_store.specs.declared.ClauseKind.TheVariants.{AnyOf}
 use Rattle.resolver_clause_store.specs.declared.Origin.TheVariants.{ConditionHelper}
 use Rattle.resolver_encoding.specs.Encodings.{IsStepWhile, idle}
 use Rattle.resolver_encoding.specs.Notes.{KeepsRoom, notes_in}
-use Rattle.resolver_encoding.specs.Led.{AddsOnly, IsOfHelper}
 use Rattle.resolver_encoding.proofs.encoding.Encoding.imply_each.Given as goal
 
 abbrev pub invariant-loop-candidate : goal.invariant-loop-candidate
@@ -13,5 +12,4 @@ invariant-loop-candidate g l = record {
   step : IsStepWhile (g.D.Interner.universe l.provider) idle (λ root. ⊤) (notes_in l.fn.self) (notes_in l.self);
   follow : All (λ s. Contains (notes_in l.self).kinds (AnyOf (ConditionHelper l.version_set) s)) (take l.candidate-index l.candidates);
   helped : (notes_in l.self).helped ≡ (notes_in l.fn.self).helped;
-  adds : AddsOnly (IsOfHelper (g.D.Interner.universe l.provider) l.version_set) (notes_in l.fn.self) (notes_in l.self);
 }

@@ -8,8 +8,6 @@ use Rattle.resolver_encoding.specs.Notes.{notes_in}
 use Rattle.resolver_encoding.proofs.EncodingLemmas.{clause_listed}
 use Rattle.resolver_encoding.proofs.NoteLemmas.{IsStep-kind}
 use Rattle.resolver_encoding.proofs.RequirementLemmas.{gate_follows}
-use Rattle.resolver_encoding.proofs.LedLemmas.{AddsOnly-weaker}
-use Rattle.resolver_encoding.proofs.TableLemmas.{mentioned_two}
 use Rattle.resolver_encoding.proofs.encoding.Encoding.imply_gate.Goals as goal
 
 pub returns-clause-step : goal.returns-clause-step
@@ -25,13 +23,3 @@ pub returns-clause-implied : goal.returns-clause-implied
 returns-clause-implied g c =
     let u = g.D.Interner.universe c.args.provider.now in
     clause_listed u (notes_in c.args.self.now) _ _ (c.in_ok-add.ensures.added u refl)
-
-pub returns-in_err-add-clause-adds : goal.returns-in_err-add-clause-adds
-returns-in_err-add-clause-adds g c =
-    let u = g.D.Interner.universe c.args.provider.now in
-    AddsOnly-weaker _ _ (λ o is. mentioned_two _ _ o is) _ _ (c.add.ensures.adds u refl)
-
-pub returns-clause-adds : goal.returns-clause-adds
-returns-clause-adds g c =
-    let u = g.D.Interner.universe c.args.provider.now in
-    AddsOnly-weaker _ _ (λ o is. mentioned_two _ _ o is) _ _ (c.add.ensures.adds u refl)

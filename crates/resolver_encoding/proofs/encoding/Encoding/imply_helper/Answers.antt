@@ -8,14 +8,11 @@ use Rattle.resolver_encoding.specs.Notes.{notes_in}
 use Rattle.resolver_clause_store.proofs.SetLemmas.{All-done, Contains-item}
 use Rattle.resolver_encoding.proofs.EncodingLemmas.{IsStep-same, IsStep-trans, clause_listed}
 use Rattle.resolver_encoding.proofs.NoteLemmas.{All-grown, IsStep-kind}
-use Rattle.resolver_encoding.proofs.LedLemmas.{AddsOnly-equal, AddsOnly-trans, AddsOnly-weaker, excluded_own}
-use Rattle.resolver_encoding.proofs.TableLemmas.{mentioned_two}
 use Rattle.resolver_encoding.proofs.RoomLemmas.{KeepsRoom-same, KeepsRoom-trans}
 use Rattle.resolver_encoding.proofs.encoding.Encoding.imply_helper.Goals as goal
 
 pub loop-candidate-init : goal.loop-candidate-init
 loop-candidate-init g c = record {
-  adds = AddsOnly-equal _ _ _ refl refl;
   room = KeepsRoom-same _ c.requires.bounded;
   step = IsStep-same (g.D.Interner.universe c.args.provider.now) idle (λ root. ⊤) (notes_in c.args.self.now);
   excluded = All-nil (λ s. Contains (notes_in c.args.self.now).kinds (ConstrainsExcluded s c.args.version_set));
@@ -35,10 +32,6 @@ loop-candidate-preserved g c =
     let step = IsStep-kind u idle (λ root. ⊤) (notes_in c.loop-candidate.self) (notes_in c.add.new.self)
     (ConstrainsExcluded s v) adds (λ root _ _ codes _. other) tt tt tt in
     record {
-      adds = AddsOnly-trans _ _ _ _ before.adds
-          (AddsOnly-weaker _ _ (λ o is. excluded_own u c.args.version_set c.candidate-item.result
-          (rw c.requires.forbidden at (Contains-item c.args.forbidden.now c.loop-candidate.candidate-index c.candidate-item.result
-          (omega arith) c.candidate-item.is)) o (mentioned_two _ _ o is)) _ _ (c.add.ensures.adds u refl));
       room = KeepsRoom-trans _ _ _ before.room c.add.ensures.room;
       step = IsStep-trans u idle (λ root. ⊤) _ _ _ before.step step;
       excluded = All-grown (λ t. Contains (notes_in c.loop-candidate.self).kinds (ConstrainsExcluded t v)) (λ t.
@@ -52,11 +45,3 @@ pub returns-clause-excluded : goal.returns-clause-excluded
 returns-clause-excluded g c = All-done (λ t.
     Contains (notes_in c.loop-candidate.self).kinds (ConstrainsExcluded t c.args.version_set)) c.args.forbidden.now c.loop-candidate.candidate-index
     (omega arith) c.loop-candidate.invariant.excluded
-
-pub returns-in_err-add-clause-adds : goal.returns-in_err-add-clause-adds
-returns-in_err-add-clause-adds g c =
-    let u = g.D.Interner.universe c.args.provider.now in
-    AddsOnly-trans _ _ _ _ c.loop-candidate.invariant.adds
-    (AddsOnly-weaker _ _ (λ o is. excluded_own u c.args.version_set c.candidate-item.result
-    (rw c.requires.forbidden at (Contains-item c.args.forbidden.now c.loop-candidate.candidate-index c.candidate-item.result
-    (omega arith) c.candidate-item.is)) o (mentioned_two _ _ o is)) _ _ (c.add.ensures.adds u refl))

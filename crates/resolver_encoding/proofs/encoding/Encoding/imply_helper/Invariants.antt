@@ -3,7 +3,6 @@ use Rattle.std.specs.Prelude.{⊤}
 use Rattle.resolver_clause_store.specs.declared.ClauseKind.TheVariants.{ConstrainsExcluded}
 use Rattle.resolver_encoding.specs.Encodings.{IsStepWhile, idle}
 use Rattle.resolver_encoding.specs.Notes.{KeepsRoom, notes_in}
-use Rattle.resolver_encoding.specs.Led.{AddsOnly, IsOfConstraint}
 use Rattle.resolver_encoding.proofs.encoding.Encoding.imply_helper.Given as goal
 
 abbrev pub invariant-loop-candidate : goal.invariant-loop-candidate
@@ -12,5 +11,4 @@ invariant-loop-candidate g l = record {
   step : IsStepWhile (g.D.Interner.universe l.provider) idle (λ root. ⊤) (notes_in l.fn.self) (notes_in l.self);
   excluded : All (λ s. Contains (notes_in l.self).kinds (ConstrainsExcluded s l.version_set)) (take l.candidate-index l.forbidden);
   constrained : (notes_in l.self).constrained ≡ (notes_in l.fn.self).constrained;
-  adds : AddsOnly (IsOfConstraint (g.D.Interner.universe l.provider) l.version_set) (notes_in l.fn.self) (notes_in l.self);
 }

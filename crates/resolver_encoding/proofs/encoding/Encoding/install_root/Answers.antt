@@ -1,15 +1,15 @@
-use Rattle.std.proofs.Common.{◌∙◌, refl, ap}
+use Rattle.std.proofs.Common.{◌∙◌, refl, ap, inl}
+use Rattle.std.proofs.lemmas.Result.{IfOk-from_err}
 use Rattle.resolver_encoding.specs.Notes.{notes_in}
-use Rattle.resolver_encoding.proofs.LedLemmas.{AddsOnly-weaker}
 use Rattle.resolver_encoding.proofs.ReadLemmas.{installed}
-use Rattle.resolver_encoding.proofs.TableLemmas.{mentioned_one}
+use Rattle.resolver_encoding.proofs.RefusalLemmas.{IfErr-of, shortage_at_limit}
 use Rattle.resolver_encoding.proofs.encoding.Encoding.install_root.Goals as goal
 
 pub returns-clause-installed : goal.returns-clause-installed
 returns-clause-installed g c =
     let u = g.D.Interner.universe c.args.provider.now in
-    installed u (notes_in c.args.self.now) (notes_in c.add.new.self) c.requires.nothing_read (c.in_ok-add.ensures.added u refl)
-    (AddsOnly-weaker _ _ (λ o is. mentioned_one _ o is) _ _ (c.add.ensures.adds u refl))
+    installed u (notes_in c.args.self.now) (notes_in c.add.new.self) _ _ _ c.requires.nothing_read c.intern.ensures.distinct c.intern.ensures.added
+    c.in_ok-intern.ensures.here (c.in_ok-add.ensures.added u refl)
 
 pub returns-clause-nothing : goal.returns-clause-nothing
 returns-clause-nothing g c =
@@ -23,13 +23,3 @@ returns-clause-nothing g c =
 
 pub returns-clause-exempt : goal.returns-clause-exempt
 returns-clause-exempt g c = ap (λ n. n.exempt) (c.in_ok-add.ensures.added (g.D.Interner.universe c.args.provider.now) refl).is
-
-pub returns-in_err-add-clause-adds : goal.returns-in_err-add-clause-adds
-returns-in_err-add-clause-adds g c =
-    let u = g.D.Interner.universe c.args.provider.now in
-    AddsOnly-weaker _ _ (λ o is. mentioned_one _ o is) _ _ (c.add.ensures.adds u refl)
-
-pub returns-clause-adds : goal.returns-clause-adds
-returns-clause-adds g c =
-    let u = g.D.Interner.universe c.args.provider.now in
-    AddsOnly-weaker _ _ (λ o is. mentioned_one _ o is) _ _ (c.add.ensures.adds u refl)

@@ -5,8 +5,6 @@ use Rattle.resolver_encoding.specs.Notes.{notes_in}
 use Rattle.resolver_encoding.proofs.EncodingLemmas.{clause_listed}
 use Rattle.resolver_encoding.proofs.NoteLemmas.{IsStep-kind, not_same}
 use Rattle.resolver_encoding.proofs.TurnLemmas.{AddsPlainly-clause}
-use Rattle.resolver_encoding.proofs.LedLemmas.{AddsOnly-weaker, locked_barred}
-use Rattle.resolver_encoding.proofs.TableLemmas.{mentioned_two}
 use Rattle.resolver_encoding.proofs.encoding.Encoding.lock_out.Goals as goal
 
 pub returns-clause-step : goal.returns-clause-step
@@ -32,17 +30,3 @@ returns-clause-plain g c =
 
 pub returns-clause-asked : goal.returns-clause-asked
 returns-clause-asked g c = ap (λ n. n.asked) (c.in_ok-add.ensures.added (g.D.Interner.universe c.args.provider.now) refl).is
-
-pub returns-in_err-add-clause-adds : goal.returns-in_err-add-clause-adds
-returns-in_err-add-clause-adds g c =
-    let u = g.D.Interner.universe c.args.provider.now in
-    AddsOnly-weaker _ _ (λ o is. locked_barred u c.args.name c.args.locked c.args.candidate c.requires.named c.requires.lock c.requires.listed
-    (not_same g.S.PartialEq.eq g.met.D.Interner.solvables_are_values c.args.candidate c.args.locked c.eq.result c.eq.ensures c.if-eq.false)
-    o (mentioned_two _ _ o is)) _ _ (c.add.ensures.adds u refl)
-
-pub returns-clause-adds : goal.returns-clause-adds
-returns-clause-adds g c =
-    let u = g.D.Interner.universe c.args.provider.now in
-    AddsOnly-weaker _ _ (λ o is. locked_barred u c.args.name c.args.locked c.args.candidate c.requires.named c.requires.lock c.requires.listed
-    (not_same g.S.PartialEq.eq g.met.D.Interner.solvables_are_values c.args.candidate c.args.locked c.eq.result c.eq.ensures c.if-eq.false)
-    o (mentioned_two _ _ o is)) _ _ (c.add.ensures.adds u refl)

@@ -9,13 +9,11 @@ use Rattle.resolver_encoding.proofs.EncodingLemmas.{IsStep-same, IsStep-trans}
 use Rattle.resolver_encoding.proofs.NoteLemmas.{All-grown}
 use Rattle.resolver_encoding.proofs.TurnLemmas.{AddsPlainly-same, AddsPlainly-trans}
 use Rattle.resolver_clause_store.proofs.ListLemmas.{Contains-here as here}
-use Rattle.resolver_encoding.proofs.LedLemmas.{AddsOnly-equal, AddsOnly-trans}
 use Rattle.resolver_encoding.proofs.RoomLemmas.{KeepsRoom-same, KeepsRoom-trans}
 use Rattle.resolver_encoding.proofs.encoding.Encoding.lock_out_others.Goals as goal
 
 pub loop-candidate-init : goal.loop-candidate-init
 loop-candidate-init g c = record {
-  adds = AddsOnly-equal _ _ _ refl refl;
   room = KeepsRoom-same _ c.requires.bounded;
   step = IsStep-same (g.D.Interner.universe c.args.provider.now) (asking_for c.args.name) (λ root. ⊤) (notes_in c.args.self.now);
   forbidden = All-nil (λ s. (s ≡ c.in-Some.locked → ⊥) → (Contains (notes_in c.args.self.now).exempt s → ⊥) →
@@ -47,7 +45,6 @@ loop-candidate-preserved g c =
     let Free : List g.row.S.Denot → Type 0 = λ list. (c.candidate-item.result ≡ t → ⊥) → (Contains list c.candidate-item.result → ⊥) →
     Contains (notes_in c.lock_out.new.self).kinds (Lock t c.candidate-item.result) in
     record {
-      adds = AddsOnly-trans _ _ _ _ before.adds c.lock_out.ensures.adds;
       room = KeepsRoom-trans _ _ _ before.room c.lock_out.ensures.room;
       step = IsStep-trans u (asking_for c.args.name) (λ root. ⊤) _ _ _ before.step step;
       forbidden = All-grown (λ s. (s ≡ t → ⊥) → (Contains (notes_in c.args.self.now).exempt s → ⊥) →
@@ -67,6 +64,3 @@ returns-clause-read g c =
     (s ≡ t → ⊥) → (Contains (notes_in c.args.self.now).exempt s → ⊥) →
     Contains (notes_in c.loop-candidate.self).kinds (Lock t s)) c.args.listed.now c.loop-candidate.candidate-index
     (omega arith) c.loop-candidate.invariant.forbidden)
-
-pub returns-in_err-lock_out-clause-adds : goal.returns-in_err-lock_out-clause-adds
-returns-in_err-lock_out-clause-adds g c = AddsOnly-trans _ _ _ _ c.loop-candidate.invariant.adds c.lock_out.ensures.adds

@@ -4,8 +4,6 @@ use Rattle.resolver_clause_store.specs.declared.ClauseKind.TheVariants.{Lock}
 use Rattle.resolver_encoding.specs.Encodings.{IsStepWhile, asking_for}
 use Rattle.resolver_encoding.specs.Notes.{KeepsRoom, notes_in}
 use Rattle.resolver_encoding.specs.Turns.{AddsPlainly}
-use Rattle.resolver_encoding.specs.Led.{AddsOnly, IsBarred}
-use Rattle.resolver_encoding.specs.Called.{IsAsking}
 use Rattle.resolver_encoding.proofs.encoding.Encoding.lock_out_others.Given as goal
 
 abbrev pub invariant-loop-candidate : goal.invariant-loop-candidate
@@ -16,5 +14,4 @@ invariant-loop-candidate g l = record {
       (take l.candidate-index l.listed);
   plain : AddsPlainly (notes_in l.fn.self) (notes_in l.self);
   asked : (notes_in l.self).asked ≡ (notes_in l.fn.self).asked;
-  adds : AddsOnly (IsBarred (g.D.Interner.universe l.provider) (IsAsking l.name)) (notes_in l.fn.self) (notes_in l.self);
 }

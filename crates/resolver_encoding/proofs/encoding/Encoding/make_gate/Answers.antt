@@ -1,4 +1,4 @@
-use Rattle.std.proofs.Common.{refl, sym, subst, Contains, List}
+use Rattle.std.proofs.Common.{sym, subst, Contains, List}
 use Rattle.std.specs.Prelude.{⊤}
 use Rattle.std.proofs.lemmas.List.Elements.{All-contains, Contains-push}
 use Rattle.resolver_clause_store.specs.Candidates.{version_sets}
@@ -8,14 +8,11 @@ use Rattle.resolver_encoding.specs.Encodings.{idle}
 use Rattle.resolver_encoding.specs.Notes.{notes_in}
 use Rattle.resolver_encoding.proofs.EncodingLemmas.{IsStep-trans, clause_listed}
 use Rattle.resolver_encoding.proofs.NoteLemmas.{IsStep-gated, IsStep-kind}
-use Rattle.resolver_encoding.proofs.LedLemmas.{AddsOnly-same_as, AddsOnly-weaker}
-use Rattle.resolver_encoding.proofs.TableLemmas.{gate_mentions}
 use Rattle.std.proofs.lemmas.Result.{IfOk-from_err}
 use Rattle.resolver_encoding.proofs.RefusalLemmas.{IfErr-of}
 use Rattle.resolver_encoding.proofs.RefusalLemmas.{shortage_of_memory}
 use Rattle.resolver_encoding.proofs.RoomLemmas.{KeepsRoom-same}
 use Rattle.resolver_encoding.proofs.EncodingLemmas.{IsStep-same}
-use Rattle.resolver_encoding.proofs.LedLemmas.{AddsOnly-equal}
 use Rattle.resolver_encoding.proofs.encoding.Encoding.make_gate.Goals as goal
 
 pub returns-then-is_among : goal.returns-then-is_among
@@ -24,32 +21,7 @@ returns-then-is_among g c =
       room = KeepsRoom-same _ c.requires.bounded;
       step = IsStep-same (g.D.Interner.universe c.args.provider.now) idle (λ root. ⊤) (notes_in c.args.self.now);
       gate = c.if-is_among.ensures;
-      adds = AddsOnly-equal _ _ _ refl refl;
       refusal = tt;
-    }
-
-pub returns-in_err-add_with : goal.returns-in_err-add_with
-returns-in_err-add_with g c =
-    record {
-      adds = let u = g.D.Interner.universe c.args.provider.now in
-          AddsOnly-weaker _ _ (gate_mentions u c.args.requirement) _ _ (c.add_with.ensures.adds u c.requires.candidates);
-      room = c.add_with.ensures.room;
-      step = IfOk-from_err c.from_residual.result _ c.from_residual.ensures.0;
-      gate = IfOk-from_err c.from_residual.result _ c.from_residual.ensures.0;
-      refusal = IfErr-of c.from_residual.result _ _ c.from_residual.ensures.1 c.in_err-add_with.ensures.refusal;
-    }
-
-pub returns-in_err-append : goal.returns-in_err-append
-returns-in_err-append g c =
-    record {
-      adds = let u = g.D.Interner.universe c.args.provider.now in
-          AddsOnly-same_as _ (notes_in c.args.self.now) (notes_in c.add_with.new.self) _
-          (AddsOnly-weaker _ _ (gate_mentions u c.args.requirement) _ _ (c.add_with.ensures.adds u c.requires.candidates)) refl refl;
-      room = (let it = c.add_with.ensures.room in record { bounded = it.bounded; variables = it.variables; clauses = it.clauses });
-      step = IfOk-from_err c.from_residual-in_err-append.result _ c.from_residual-in_err-append.ensures.0;
-      gate = IfOk-from_err c.from_residual-in_err-append.result _ c.from_residual-in_err-append.ensures.0;
-      refusal = IfErr-of c.from_residual-in_err-append.result _ _ c.from_residual-in_err-append.ensures.1
-          (shortage_of_memory _ _ c.in_err-append.ensures.memory);
     }
 
 pub returns : goal.returns
@@ -69,9 +41,6 @@ returns g c =
           (IsStep-gated u mid _ r (λ i. record mid { gates = c.in_ok-append.ensures.keys i }) (clause_listed u old mid (GateRequires r) adds));
       gate = let Has : List Requirement → Type 0 = λ list. Contains list c.args.requirement in
           subst Has (sym c.in_ok-append.ensures.keys) (Contains-push c.add_with.new.self.gates.keys c.args.requirement);
-      adds = let u = g.D.Interner.universe c.args.provider.now in
-          AddsOnly-same_as _ (notes_in c.args.self.now) (notes_in c.add_with.new.self) _
-          (AddsOnly-weaker _ _ (gate_mentions u c.args.requirement) _ _ (c.add_with.ensures.adds u c.requires.candidates)) refl refl;
       room = (let it = c.add_with.ensures.room in record { bounded = it.bounded; variables = it.variables; clauses = it.clauses });
       refusal = tt;
     }

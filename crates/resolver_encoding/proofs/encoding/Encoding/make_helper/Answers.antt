@@ -1,4 +1,4 @@
-use Rattle.std.proofs.Common.{sym, subst, All, Contains, List, refl}
+use Rattle.std.proofs.Common.{sym, subst, All, Contains, List}
 use Rattle.std.specs.Prelude.{⊤}
 use Rattle.std.proofs.lemmas.List.Elements.{All-contains, Contains-push}
 use Rattle.resolver_clause_store.specs.Candidates.{others}
@@ -8,7 +8,6 @@ use Rattle.resolver_encoding.specs.Encodings.{idle}
 use Rattle.resolver_encoding.specs.Notes.{notes_in}
 use Rattle.resolver_encoding.proofs.EncodingLemmas.{IsStep-trans}
 use Rattle.resolver_encoding.proofs.NoteLemmas.{IsStep-constrained}
-use Rattle.resolver_encoding.proofs.LedLemmas.{AddsOnly-same_as}
 use Rattle.resolver_encoding.proofs.encoding.Encoding.make_helper.Goals as goal
 
 pub append-requires-clause-absent : goal.append-requires-clause-absent
@@ -31,9 +30,3 @@ pub returns-clause-constrained : goal.returns-clause-constrained
 returns-clause-constrained g c =
     let Has : List VersionSetId → Type 0 = λ list. Contains list c.args.version_set in
     subst Has (sym c.in_ok-append.ensures.keys) (Contains-push c.imply_helper.new.self.constrained.keys c.args.version_set)
-
-pub returns-in_err-append-clause-adds : goal.returns-in_err-append-clause-adds
-returns-in_err-append-clause-adds g c = AddsOnly-same_as _ (notes_in c.args.self.now) (notes_in c.imply_helper.new.self) _ c.imply_helper.ensures.adds refl refl
-
-pub returns-clause-adds : goal.returns-clause-adds
-returns-clause-adds g c = AddsOnly-same_as _ (notes_in c.args.self.now) (notes_in c.imply_helper.new.self) _ c.imply_helper.ensures.adds refl refl

@@ -10,15 +10,11 @@ use Rattle.resolver_encoding.specs.Notes.{notes_in}
 use Rattle.resolver_encoding.proofs.EncodingLemmas.{IsStep-same, IsStep-trans, clause_listed}
 use Rattle.resolver_encoding.proofs.NoteLemmas.{All-grown}
 use Rattle.resolver_encoding.proofs.SeeLemmas.{IsStep-begun, place_of_item}
-use Rattle.resolver_encoding.proofs.GroupLemmas.{named_of_number}
-use Rattle.resolver_encoding.proofs.LedLemmas.{AddsOnly-equal, AddsOnly-trans, AddsOnly-weaker, begun_coded}
-use Rattle.resolver_encoding.proofs.TableLemmas.{mentioned_two}
 use Rattle.resolver_encoding.proofs.RoomLemmas.{KeepsRoom-same, KeepsRoom-trans}
 use Rattle.resolver_encoding.proofs.encoding.Encoding.open_digit.Goals as goal
 
 pub loop-other-init : goal.loop-other-init
 loop-other-init g c = record {
-  adds = AddsOnly-equal _ _ _ refl refl;
   room = KeepsRoom-same _ c.requires.bounded;
   step = IsStep-same (g.D.Interner.universe c.args.provider.now) (coding_for c.args.name c.args.number c.args.solvable) (λ root. ⊤) (notes_in c.args.self.now);
   begun = All-nil (λ t. Contains (notes_in c.args.self.now).kinds (HasBit c.args.name t c.args.index false));
@@ -47,11 +43,6 @@ loop-other-preserved g c =
     c.requires.number
     (λ sound. c.requires.below (subst Sound before.groups sound) j t at) (subst At (sym before.groups) at) in
     record {
-      adds = AddsOnly-trans _ _ _ _ before.adds
-          (AddsOnly-weaker _ _ (λ o is. begun_coded _ c.args.name c.args.number c.args.solvable c.other-item.result c.args.index c.requires.number
-          (named_of_number _ _ _ _ (c.requires.earlier c.loop-other.other-index c.other-item.result
-          (place_of_item c.args.earlier.now c.loop-other.other-index c.other-item.result (omega arith) c.other-item.is)))
-          o (mentioned_two _ _ o is)) _ _ (c.add.ensures.adds u refl));
       room = KeepsRoom-trans _ _ _ before.room c.add.ensures.room;
       step = IsStep-trans u (coding_for n k s) (λ root. ⊤) _ _ _ before.step step;
       begun = All-grown (λ x. Contains old.kinds (HasBit n x i false)) (λ x. Contains new.kinds (HasBit n x i false)) c.args.earlier.now j t (λ y h.
@@ -65,12 +56,3 @@ pub returns-clause-begun : goal.returns-clause-begun
 returns-clause-begun g c = All-done (λ x.
     Contains (notes_in c.loop-other.self).kinds (HasBit c.args.name x c.args.index false)) c.args.earlier.now c.loop-other.other-index
     (omega arith) c.loop-other.invariant.begun
-
-pub returns-in_err-add-clause-adds : goal.returns-in_err-add-clause-adds
-returns-in_err-add-clause-adds g c =
-    let u = g.D.Interner.universe c.args.provider.now in
-    AddsOnly-trans _ _ _ _ c.loop-other.invariant.adds
-    (AddsOnly-weaker _ _ (λ o is. begun_coded _ c.args.name c.args.number c.args.solvable c.other-item.result c.args.index c.requires.number
-    (named_of_number _ _ _ _ (c.requires.earlier c.loop-other.other-index c.other-item.result
-    (place_of_item c.args.earlier.now c.loop-other.other-index c.other-item.result (omega arith) c.other-item.is)))
-    o (mentioned_two _ _ o is)) _ _ (c.add.ensures.adds u refl))

@@ -3,7 +3,6 @@ use Rattle.std.specs.Prelude.{⊤}
 use Rattle.resolver_clause_store.specs.declared.ClauseKind.TheVariants.{HasBit}
 use Rattle.resolver_encoding.specs.Encodings.{IsStepWhile, coding_for}
 use Rattle.resolver_encoding.specs.Notes.{KeepsRoom, notes_in}
-use Rattle.resolver_encoding.specs.Led.{AddsOnly, IsCoded}
 use Rattle.resolver_encoding.proofs.encoding.Encoding.open_digit.Given as goal
 
 abbrev pub invariant-loop-other : goal.invariant-loop-other
@@ -14,5 +13,4 @@ invariant-loop-other g l = record {
   groups : (notes_in l.self).groups ≡ (notes_in l.fn.self).groups;
   seen : (notes_in l.self).seen ≡ (notes_in l.fn.self).seen;
   requirements : (notes_in l.self).requirements ≡ (notes_in l.fn.self).requirements;
-  adds : AddsOnly (IsCoded (notes_in l.fn.self).groups l.fn.name l.fn.number l.fn.solvable) (notes_in l.fn.self) (notes_in l.self);
 }

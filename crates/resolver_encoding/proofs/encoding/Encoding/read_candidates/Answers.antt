@@ -8,7 +8,6 @@ use Rattle.resolver_encoding.proofs.EncodingLemmas.{Extends-trans, Extends-withi
 use Rattle.resolver_encoding.proofs.HintLemmas.{candidates_same, candidates_seen, hinted_none, hinted_one, hinted_trans}
 use Rattle.resolver_encoding.proofs.NoteLemmas.{All-grown}
 use Rattle.resolver_encoding.proofs.SoFarLemmas.{IsMoreOrSame-trans}
-use Rattle.resolver_encoding.proofs.LedReading.{KeepsLed-same, KeepsLed-trans, led_read}
 use Rattle.resolver_encoding.proofs.RoomLemmas.{KeepsRoom-same, KeepsRoom-trans}
 use Rattle.resolver_encoding.proofs.encoding.Encoding.read_candidates.Goals as goal
 
@@ -16,7 +15,6 @@ pub loop-candidate-init : goal.loop-candidate-init
 loop-candidate-init g c =
     let u = g.D.Interner.universe c.args.provider.now in
     record {
-      led = KeepsLed-same u c.args.chosen.now.keys (notes_in c.args.self.now);
       room = KeepsRoom-same _ c.requires.bounded;
       half = c.requires.half;
       reading = hinted_none u c.args.chosen.now.keys c.args.place (notes_in c.args.self.now);
@@ -58,21 +56,6 @@ loop-candidate-preserved g c =
     (Extends-trans one.table two.table three.table first.table reading.table)
     (Extends-trans one.requirements two.requirements three.requirements first.requirements reading.requirements) seen reading in
     record {
-      led =
-          let u = g.D.Interner.universe c.args.provider.now in
-          let set = c.args.chosen.now.keys in
-          let here = c.loop-candidate.invariant in
-          let s = c.candidate-item.result in
-          let half = c.requires.half in
-          let one = notes_in c.args.self.now in
-          let two = notes_in c.loop-candidate.self in
-          let three = notes_in c.read_candidate.new.self in
-          let Among : List g.row.S.Denot → Type 0 = λ list. Contains list s in
-          let inside : Contains c.args.candidates.now s = (c.loop-candidate.candidate-index, omega arith, sym c.candidate-item.is) in
-          let seen = Extends-within one.seen two.seen here.reading.reading.seen s
-          (candidates_seen u half.root one half.half.encoding c.args.place s (subst Among c.requires.listed inside)) in
-          KeepsLed-trans u set one two three here.reading.near here.led
-          (led_read u set s two three (λ root seeds packages near all. near.seen s seen) c.read_candidate.ensures.brings);
       room = KeepsRoom-trans _ _ _ before.room c.read_candidate.ensures.room;
       half = record { root = before.half.root; half = reading.keeps before.half.root before.half.half };
       reading = hinted_trans u set half.root c.args.place one two three half.half before.reading now;
@@ -96,20 +79,3 @@ returns-clause-here g c =
     subst Done (c.requires.listed ∙ sym same)
     (All-done (λ t. IsHinted u t → Contains new.read t) c.args.candidates.now c.loop-candidate.candidate-index
     (omega arith) c.loop-candidate.invariant.read)
-
-pub returns-in_err-hintless-clause-led : goal.returns-in_err-hintless-clause-led
-returns-in_err-hintless-clause-led g c =
-    let u = g.D.Interner.universe c.args.provider.now in
-    let set = c.args.chosen.now.keys in
-    let here = c.loop-candidate.invariant in
-    let s = c.candidate-item.result in
-    let half = c.requires.half in
-    let one = notes_in c.args.self.now in
-    let two = notes_in c.loop-candidate.self in
-    let three = notes_in c.read_candidate.new.self in
-    let Among : List g.row.S.Denot → Type 0 = λ list. Contains list s in
-    let inside : Contains c.args.candidates.now s = (c.loop-candidate.candidate-index, omega arith, sym c.candidate-item.is) in
-    let seen = Extends-within one.seen two.seen here.reading.reading.seen s
-    (candidates_seen u half.root one half.half.encoding c.args.place s (subst Among c.requires.listed inside)) in
-    KeepsLed-trans u set one two three here.reading.near here.led
-    (led_read u set s two three (λ root seeds packages near all. near.seen s seen) c.read_candidate.ensures.brings)

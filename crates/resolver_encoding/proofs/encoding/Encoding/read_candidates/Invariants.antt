@@ -4,7 +4,6 @@ use Rattle.resolver_clause_store.specs.Caches.{IsTrueCache}
 use Rattle.resolver_encoding.specs.Hints.{AreReadIfHinted, HintsAtNone}
 use Rattle.resolver_encoding.specs.Notes.{KeepsRoom, notes_in}
 use Rattle.resolver_encoding.specs.SoFar.{IsHalfReading, IsHintedReading, IsMoreOrSame}
-use Rattle.resolver_encoding.specs.Led.{KeepsLed}
 use Rattle.resolver_encoding.proofs.encoding.Encoding.read_candidates.Given as goal
 
 abbrev pub invariant-loop-candidate : goal.invariant-loop-candidate
@@ -16,5 +15,4 @@ invariant-loop-candidate g l = record {
   more : IsMoreOrSame (notes_in l.fn.self) (notes_in l.self);
   hintless : IfSome l.hintless (HintsAtNone (g.D.Interner.universe l.provider));
   is_true : IsTrueCache (g.D.Interner.universe l.provider) l.cache;
-  led : KeepsLed (g.D.Interner.universe l.provider) l.chosen.keys (notes_in l.fn.self) (notes_in l.self);
 }

@@ -1,14 +1,11 @@
-use Rattle.std.proofs.Common.{◌≡◌, ℕ, arith, sym, subst, ◌≤◌, length, Contains}
+use Rattle.std.proofs.Common.{◌≡◌, ℕ, arith, sym, subst, ◌≤◌, length}
 use Rattle.resolver_encoding.specs.Notes.{notes_in}
 use Rattle.resolver_encoding.specs.Hints.{AreHintsRead, IsListedFrom}
 use Rattle.resolver_encoding.specs.SoFar.{IsHintedReading, IsProgress}
 use Rattle.resolver_encoding.specs.declared.progress.Progress.{Progress}
 use Rattle.resolver_encoding.proofs.HintLemmas.{asked_on, longer, more_on, progress_then, so_far_on}
-use Rattle.resolver_encoding.proofs.ReachLemmas.{near_after, near_read}
+use Rattle.resolver_encoding.proofs.ReachLemmas.{near_after}
 use Rattle.resolver_encoding.proofs.SoFarLemmas.{all_asked, firing_half, lawful_solvables, progress, read_more, so_far}
-use Rattle.std.proofs.lemmas.List.Elements.{All-contains}
-use Rattle.resolver_clause_store.specs.Near.{IsNear}
-use Rattle.resolver_encoding.proofs.LedReading.{led_fired}
 use Rattle.std.proofs.lemmas.Result.{IfOk-from_err}
 use Rattle.resolver_encoding.proofs.RefusalLemmas.{IfErr-of}
 use Rattle.resolver_encoding.proofs.RoomLemmas.{KeepsRoom-trans}
@@ -40,88 +37,6 @@ read_hinted-requires-clause-within g c = let old = notes_in c.args.self.now in
     let second : length mid.requirements ≤ length fired.requirements = longer mid.requirements fired.requirements c.in_ok-fired.ensures.firing.requirements in
     let size : c.requirement_count-clauses.result ≡ length old.requirements = c.requirement_count-clauses.ensures in
     omega (arith, first, second, size)
-
-pub returns-in_err-read : goal.returns-in_err-read
-returns-in_err-read g c =
-    record {
-      led = λ root seeds packages so near all led.
-          let u = g.D.Interner.universe c.args.provider.now in
-          let set = c.args.chosen.now.keys in
-          let old = notes_in c.args.self.now in
-          let mid = notes_in c.read_each.new.self in
-          let first = c.read_each.ensures.led.led root seeds packages near all led in
-          first;
-      bounded = c.read_each.ensures.room.bounded;
-      is_true = c.read_each.ensures.is_true;
-      read = IfOk-from_err c.from_residual.result _ c.from_residual.ensures.0;
-      asked = IfOk-from_err c.from_residual.result _ c.from_residual.ensures.0;
-      near = IfOk-from_err c.from_residual.result _ c.from_residual.ensures.0;
-      hinted = IfOk-from_err c.from_residual.result _ c.from_residual.ensures.0;
-      more = IfOk-from_err c.from_residual.result _ c.from_residual.ensures.0;
-      progress = IfOk-from_err c.from_residual.result _ c.from_residual.ensures.0;
-      fit = IfOk-from_err c.from_residual.result _ c.from_residual.ensures.0;
-      limits = (let it = c.read_each.ensures.room in record { variables = it.variables; clauses = it.clauses });
-      refusal = IfErr-of c.from_residual.result _ _ c.from_residual.ensures.1 c.in_err-read.ensures.refusal;
-    }
-
-pub returns-in_err-fired : goal.returns-in_err-fired
-returns-in_err-fired g c =
-    record {
-      led = λ root seeds packages so near all led.
-          let u = g.D.Interner.universe c.args.provider.now in
-          let set = c.args.chosen.now.keys in
-          let old = notes_in c.args.self.now in
-          let mid = notes_in c.read_each.new.self in
-          let first = c.read_each.ensures.led.led root seeds packages near all led in
-          let fired = notes_in c.fire_deferred.new.self in
-          let reading = c.in_ok-read.ensures.reading in
-          let half = reading.keeps root so.half in
-          let mid_near = near_read u root seeds packages set (Contains set) old mid reading near all (λ s h. All-contains (IsNear u root seeds) set s all h) in
-          let second = led_fired u root seeds packages set mid fired half mid_near all c.fire_deferred.ensures.brings first in
-          second;
-      bounded = c.fire_deferred.ensures.room.bounded;
-      is_true = c.fire_deferred.ensures.is_true;
-      read = IfOk-from_err c.from_residual-in_err-fired.result _ c.from_residual-in_err-fired.ensures.0;
-      asked = IfOk-from_err c.from_residual-in_err-fired.result _ c.from_residual-in_err-fired.ensures.0;
-      near = IfOk-from_err c.from_residual-in_err-fired.result _ c.from_residual-in_err-fired.ensures.0;
-      hinted = IfOk-from_err c.from_residual-in_err-fired.result _ c.from_residual-in_err-fired.ensures.0;
-      more = IfOk-from_err c.from_residual-in_err-fired.result _ c.from_residual-in_err-fired.ensures.0;
-      progress = IfOk-from_err c.from_residual-in_err-fired.result _ c.from_residual-in_err-fired.ensures.0;
-      fit = IfOk-from_err c.from_residual-in_err-fired.result _ c.from_residual-in_err-fired.ensures.0;
-      limits = (let it = KeepsRoom-trans _ _ _ c.read_each.ensures.room c.fire_deferred.ensures.room in
-          record { variables = it.variables; clauses = it.clauses });
-      refusal = IfErr-of c.from_residual-in_err-fired.result _ _ c.from_residual-in_err-fired.ensures.1 c.in_err-fired.ensures.refusal;
-    }
-
-pub returns-in_err-hinted : goal.returns-in_err-hinted
-returns-in_err-hinted g c =
-    record {
-      led = λ root seeds packages so near all led.
-          let u = g.D.Interner.universe c.args.provider.now in
-          let set = c.args.chosen.now.keys in
-          let old = notes_in c.args.self.now in
-          let mid = notes_in c.read_each.new.self in
-          let first = c.read_each.ensures.led.led root seeds packages near all led in
-          let fired = notes_in c.fire_deferred.new.self in
-          let reading = c.in_ok-read.ensures.reading in
-          let half = reading.keeps root so.half in
-          let mid_near = near_read u root seeds packages set (Contains set) old mid reading near all (λ s h. All-contains (IsNear u root seeds) set s all h) in
-          let second = led_fired u root seeds packages set mid fired half mid_near all c.fire_deferred.ensures.brings first in
-          let fired_near = near_after u root seeds packages set old mid fired reading c.in_ok-fired.ensures.firing so.half near all in
-          c.read_hinted.ensures.led.led root seeds packages fired_near all second;
-      bounded = c.read_hinted.ensures.room.bounded;
-      is_true = c.read_hinted.ensures.is_true;
-      read = IfOk-from_err c.from_residual-in_err-hinted.result _ c.from_residual-in_err-hinted.ensures.0;
-      asked = IfOk-from_err c.from_residual-in_err-hinted.result _ c.from_residual-in_err-hinted.ensures.0;
-      near = IfOk-from_err c.from_residual-in_err-hinted.result _ c.from_residual-in_err-hinted.ensures.0;
-      hinted = IfOk-from_err c.from_residual-in_err-hinted.result _ c.from_residual-in_err-hinted.ensures.0;
-      more = IfOk-from_err c.from_residual-in_err-hinted.result _ c.from_residual-in_err-hinted.ensures.0;
-      progress = IfOk-from_err c.from_residual-in_err-hinted.result _ c.from_residual-in_err-hinted.ensures.0;
-      fit = IfOk-from_err c.from_residual-in_err-hinted.result _ c.from_residual-in_err-hinted.ensures.0;
-      limits = (let it = KeepsRoom-trans _ _ _ c.read_each.ensures.room (KeepsRoom-trans _ _ _ c.fire_deferred.ensures.room c.read_hinted.ensures.room) in
-          record { variables = it.variables; clauses = it.clauses });
-      refusal = IfErr-of c.from_residual-in_err-hinted.result _ _ c.from_residual-in_err-hinted.ensures.1 c.in_err-hinted.ensures.refusal;
-    }
 
 pub returns : goal.returns
 returns g c =
@@ -193,26 +108,12 @@ returns g c =
           let mid = notes_in c.read_each.new.self in
           let fired = notes_in c.fire_deferred.new.self in
           let new = notes_in c.read_hinted.new.self in
-          let reading = c.in_ok-read.ensures.reading in
           let firing = c.in_ok-fired.ensures.firing in
           let Made : Progress → Type 0 = λ p. IsProgress old new p in
           subst Made (sym c.progress_of.ensures)
           (progress_then old fired new c.in_ok-read.read c.in_ok-fired.fired c.in_ok-hinted.hinted
           (progress u set old mid fired c.in_ok-read.read c.in_ok-fired.fired c.in_ok-read.ensures.any_new c.in_ok-fired.ensures.fired firing)
           c.in_ok-hinted.ensures.any_new);
-      led = λ root seeds packages so near all led.
-          let u = g.D.Interner.universe c.args.provider.now in
-          let set = c.args.chosen.now.keys in
-          let old = notes_in c.args.self.now in
-          let mid = notes_in c.read_each.new.self in
-          let first = c.read_each.ensures.led.led root seeds packages near all led in
-          let fired = notes_in c.fire_deferred.new.self in
-          let reading = c.in_ok-read.ensures.reading in
-          let half = reading.keeps root so.half in
-          let mid_near = near_read u root seeds packages set (Contains set) old mid reading near all (λ s h. All-contains (IsNear u root seeds) set s all h) in
-          let second = led_fired u root seeds packages set mid fired half mid_near all c.fire_deferred.ensures.brings first in
-          let fired_near = near_after u root seeds packages set old mid fired reading c.in_ok-fired.ensures.firing so.half near all in
-          c.read_hinted.ensures.led.led root seeds packages fired_near all second;
       bounded = c.read_hinted.ensures.room.bounded;
       is_true = c.read_hinted.ensures.is_true;
       fit = c.in_ok-hinted.ensures.fit;

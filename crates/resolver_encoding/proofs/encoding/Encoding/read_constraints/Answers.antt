@@ -1,18 +1,14 @@
-use Rattle.std.proofs.Common.{arith, refl, get_or, All, Contains, ◌∷◌, []}
+use Rattle.std.proofs.Common.{arith, refl, get_or, All, Contains}
 use Rattle.std.proofs.Common.{◌<◌, length}
 use Rattle.std.proofs.lemmas.List.Elements.{All-get_or, All-nil}
 use Rattle.resolver_clause_store.specs.Universe.{Demands}
-use Rattle.resolver_encoding.specs.Called.{IsAsking, IsNamedBy, to_see}
+use Rattle.resolver_encoding.specs.Called.{IsAsking, IsNamedBy}
 use Rattle.resolver_encoding.specs.Encodings.{HasConstraint, IsConstraintRead}
 use Rattle.resolver_encoding.specs.Notes.{notes_in}
 use Rattle.resolver_clause_store.proofs.SetLemmas.{All-done}
 use Rattle.resolver_encoding.proofs.EncodingLemmas.{IsAskStep-same, IsAskStep-trans, IsAskStep-weaker, IsEncodingOf-asked, IsEncodingOf-weaker}
 use Rattle.resolver_encoding.proofs.NoteLemmas.{All-grown_at, named_here}
 use Rattle.resolver_encoding.proofs.ReadLemmas.{IsConstraintRead-within}
-use Rattle.std.proofs.lemmas.List.Elements.{Contains-get_or}
-use Rattle.resolver_clause_store.specs.declared.Origin.{Origin}
-use Rattle.resolver_encoding.specs.Led.{IsOwn, with_constraints}
-use Rattle.resolver_encoding.proofs.LedLemmas.{Brings-same, Brings-trans, Brings-weaker, IsOwn-within, none_within, one_within}
 use Rattle.resolver_encoding.proofs.RoomLemmas.{KeepsRoom-same, KeepsRoom-trans}
 use Rattle.resolver_encoding.proofs.encoding.Encoding.read_constraints.Goals as goal
 
@@ -20,7 +16,6 @@ pub loop-version_set-init : goal.loop-version_set-init
 loop-version_set-init g c =
     let u = g.D.Interner.universe c.args.provider.now in
     record {
-      brings = Brings-same u (IsNamedBy u c.args.constraints.now) (IsOwn u c.args.by (with_constraints c.args.constraints.now)) (notes_in c.args.self.now);
       room = KeepsRoom-same _ c.requires.bounded;
       step = IsAskStep-same u (IsNamedBy u c.args.constraints.now) (λ root. All (λ v. HasConstraint u c.args.by v root) c.args.constraints.now)
           (notes_in c.args.self.now);
@@ -48,18 +43,6 @@ loop-version_set-preserved g c =
     let before = c.loop-version_set.invariant in
     let step = c.in_ok-read_constraint.ensures.step in
     record {
-      brings =
-          let by = c.args.by in
-          let Called = IsNamedBy u xs in
-          let Own : Origin g.row.N.Denot g.row.S.Denot → Type 0 = IsOwn u by (with_constraints xs) in
-          let old = notes_in c.args.self.now in
-          let mid = notes_in c.loop-version_set.self in
-          let new = notes_in c.read_constraint.new.self in
-          Brings-trans u Called Own old mid new (λ s h. before.step.called (to_see s) h) before.brings
-          (Brings-weaker u (IsAsking (u.version_set_name (get_or xs i _))) Called (λ call is. named_here u xs i _ _ call below refl is)
-          (IsOwn u by (with_constraints (_ ∷ []))) Own
-          (IsOwn-within u by (with_constraints (_ ∷ [])) (with_constraints xs) (none_within [])
-          (one_within _ xs (Contains-get_or xs i _ below))) mid new c.read_constraint.ensures.brings);
       room = KeepsRoom-trans _ _ _ before.room c.read_constraint.ensures.room;
       step = IsAskStep-trans u (IsNamedBy u xs) (λ root. All (λ v. HasConstraint u c.args.by v root) c.args.constraints.now) _ _ _ before.step
           (IsAskStep-weaker u (IsAsking (u.version_set_name (get_or xs i _))) (IsNamedBy u xs) (λ call is. named_here u xs i _ _ call below refl is)
@@ -83,22 +66,3 @@ pub returns-clause-asked : goal.returns-clause-asked
 returns-clause-asked g c = let u = g.D.Interner.universe c.args.provider.now in
     All-done (λ v. Contains (notes_in c.loop-version_set.self).asked (u.version_set_name v)) c.args.constraints.now c.loop-version_set.version_set-index
     (omega arith) c.loop-version_set.invariant.asked
-
-pub returns-in_err-read_constraint-clause-brings : goal.returns-in_err-read_constraint-clause-brings
-returns-in_err-read_constraint-clause-brings g c =
-    let u = g.D.Interner.universe c.args.provider.now in
-    let xs = c.args.constraints.now in
-    let i = c.loop-version_set.version_set-index in
-    let below : i < length xs = omega arith in
-    let before = c.loop-version_set.invariant in
-    let by = c.args.by in
-    let Called = IsNamedBy u xs in
-    let Own : Origin g.row.N.Denot g.row.S.Denot → Type 0 = IsOwn u by (with_constraints xs) in
-    let old = notes_in c.args.self.now in
-    let mid = notes_in c.loop-version_set.self in
-    let new = notes_in c.read_constraint.new.self in
-    Brings-trans u Called Own old mid new (λ s h. before.step.called (to_see s) h) before.brings
-    (Brings-weaker u (IsAsking (u.version_set_name (get_or xs i _))) Called (λ call is. named_here u xs i _ _ call below refl is)
-    (IsOwn u by (with_constraints (_ ∷ []))) Own
-    (IsOwn-within u by (with_constraints (_ ∷ [])) (with_constraints xs) (none_within [])
-    (one_within _ xs (Contains-get_or xs i _ below))) mid new c.read_constraint.ensures.brings)

@@ -1,10 +1,10 @@
-use Rattle.std.proofs.Common.{◌≡◌, inl, inr, sym, subst, All, Contains, List, ◌⊎◌, ⊎_elim}
+use Rattle.std.proofs.Common.{◌≡◌, inl, inr, sym, subst, All, Contains, List}
 use Rattle.std.specs.Prelude.{Option, Some, ⊤}
 use Rattle.std.proofs.lemmas.List.Elements.{All-contains_itself, All-weaker}
 use Rattle.resolver_clause_store.specs.Universe.{Demands}
 use Rattle.resolver_clause_store.specs.declared.ConditionalRequirement.{ConditionalRequirement}
 use Rattle.resolver_clause_store.specs.TrueRules.{demands_by}
-use Rattle.resolver_encoding.specs.Called.{Call, IsCalledByEach, IsDemanded, IsNamedBy, IsPlainlyNamed, to_see}
+use Rattle.resolver_encoding.specs.Called.{Call, IsCalledByEach, IsDemanded, IsNamedBy, IsPlainlyNamed}
 use Rattle.resolver_encoding.specs.Encodings.{HasRequirement, HasConstraint, IsLeft, IsUnmet}
 use Rattle.resolver_encoding.specs.Notes.{notes_in}
 use Rattle.resolver_encoding.specs.ReadState.{Deferred, IsReadRequirement}
@@ -12,9 +12,6 @@ use Rattle.resolver_encoding.proofs.EncodingLemmas.{IsAskStep-trans, IsAskStep-w
 use Rattle.resolver_encoding.proofs.EncodingLemmas.{IsReadStep-of, IsReadStep-trans, IsReadStep-weaker}
 use Rattle.resolver_encoding.proofs.ReadLemmas.{IsReadRequirement-within}
 use Rattle.resolver_encoding.proofs.RequirementLemmas.{plainly_called}
-use Rattle.resolver_clause_store.specs.declared.Origin.{Origin}
-use Rattle.resolver_encoding.specs.Led.{IsOwn, with_constraints, with_requirements}
-use Rattle.resolver_encoding.proofs.LedLemmas.{Brings-trans, Brings-weaker, IsOwn-within, barred_brings, none_within}
 use Rattle.resolver_encoding.proofs.RoomLemmas.{KeepsRoom-trans}
 use Rattle.std.proofs.lemmas.Result.{IfOk-from_err}
 use Rattle.resolver_encoding.proofs.RefusalLemmas.{IfErr-of}
@@ -56,136 +53,6 @@ read_constraints-requires-clause-encoding g c = let u = g.D.Interner.universe c.
     IsEncodingOf-weaker u Premise (λ root. All (λ v. HasConstraint u by v root) vs) (λ root same. subst AllWithin (sym same) (All-contains_itself vs))
     (notes_in c.read_requirements.new.self) third
 
-pub returns-in_err-ask_plain_each : goal.returns-in_err-ask_plain_each
-returns-in_err-ask_plain_each g c =
-    record {
-      brings = let u = g.D.Interner.universe c.args.provider.now in
-          let by = c.args.by in
-          let set = c.args.chosen.now.keys in
-          let rs = c.args.requirements.now in
-          let vs = c.args.constraints.now in
-          let demands : Demands = record { requirements = rs; constraints = vs } in
-          let Plainly : Call g.row.N.Denot g.row.S.Denot → Type 0 = λ n. (r : ConditionalRequirement) × Contains rs r × IsPlainlyNamed u r n in
-          let Called = IsDemanded u set demands in
-          let Own : Origin g.row.N.Denot g.row.S.Denot → Type 0 = IsOwn u by demands in
-          let old = notes_in c.args.self.now in
-          let plain = notes_in c.ask_plain_each.new.self in
-          let first = barred_brings u Plainly Called (λ n h. inl (plainly_called u set rs n h)) Own old plain c.ask_plain_each.ensures.adds in
-          first;
-      is_true = c.ask_plain_each.ensures.is_true;
-      step = IfOk-from_err c.from_residual.result _ c.from_residual.ensures.0;
-      read = IfOk-from_err c.from_residual.result _ c.from_residual.ensures.0;
-      refusal = IfErr-of c.from_residual.result _ _ c.from_residual.ensures.1 c.in_err-ask_plain_each.ensures.refusal;
-      room = c.ask_plain_each.ensures.room;
-    }
-
-pub returns-in_err-ask_each : goal.returns-in_err-ask_each
-returns-in_err-ask_each g c =
-    record {
-      brings = let u = g.D.Interner.universe c.args.provider.now in
-          let by = c.args.by in
-          let set = c.args.chosen.now.keys in
-          let rs = c.args.requirements.now in
-          let vs = c.args.constraints.now in
-          let demands : Demands = record { requirements = rs; constraints = vs } in
-          let Plainly : Call g.row.N.Denot g.row.S.Denot → Type 0 = λ n. (r : ConditionalRequirement) × Contains rs r × IsPlainlyNamed u r n in
-          let Called = IsDemanded u set demands in
-          let Own : Origin g.row.N.Denot g.row.S.Denot → Type 0 = IsOwn u by demands in
-          let old = notes_in c.args.self.now in
-          let plain = notes_in c.ask_plain_each.new.self in
-          let first = barred_brings u Plainly Called (λ n h. inl (plainly_called u set rs n h)) Own old plain c.ask_plain_each.ensures.adds in
-          let named = notes_in c.ask_each.new.self in
-          let seen_plain : (s : g.row.S.Denot) → Contains plain.seen s → Contains old.seen s ⊎ Called (to_see s) =
-          λ s h. ⊎_elim (λ was. inl was) (λ called. inr (inl (plainly_called u set rs (to_see s) called)))
-          (c.in_ok-ask_plain_each.ensures.step.called (to_see s) h) in
-          let second = Brings-trans u Called Own old plain named seen_plain first
-          (barred_brings u (IsNamedBy u vs) Called (λ n h. inr h) Own plain named c.ask_each.ensures.adds) in
-          second;
-      room = KeepsRoom-trans _ _ _ c.ask_plain_each.ensures.room c.ask_each.ensures.room;
-      is_true = c.ask_each.ensures.is_true;
-      step = IfOk-from_err c.from_residual-in_err-ask_each.result _ c.from_residual-in_err-ask_each.ensures.0;
-      read = IfOk-from_err c.from_residual-in_err-ask_each.result _ c.from_residual-in_err-ask_each.ensures.0;
-      refusal = IfErr-of c.from_residual-in_err-ask_each.result _ _ c.from_residual-in_err-ask_each.ensures.1 c.in_err-ask_each.ensures.refusal;
-    }
-
-pub returns-in_err-read_requirements : goal.returns-in_err-read_requirements
-returns-in_err-read_requirements g c =
-    record {
-      brings = let u = g.D.Interner.universe c.args.provider.now in
-          let by = c.args.by in
-          let set = c.args.chosen.now.keys in
-          let rs = c.args.requirements.now in
-          let vs = c.args.constraints.now in
-          let demands : Demands = record { requirements = rs; constraints = vs } in
-          let Plainly : Call g.row.N.Denot g.row.S.Denot → Type 0 = λ n. (r : ConditionalRequirement) × Contains rs r × IsPlainlyNamed u r n in
-          let Called = IsDemanded u set demands in
-          let Own : Origin g.row.N.Denot g.row.S.Denot → Type 0 = IsOwn u by demands in
-          let old = notes_in c.args.self.now in
-          let plain = notes_in c.ask_plain_each.new.self in
-          let first = barred_brings u Plainly Called (λ n h. inl (plainly_called u set rs n h)) Own old plain c.ask_plain_each.ensures.adds in
-          let named = notes_in c.ask_each.new.self in
-          let seen_plain : (s : g.row.S.Denot) → Contains plain.seen s → Contains old.seen s ⊎ Called (to_see s) =
-          λ s h. ⊎_elim (λ was. inl was) (λ called. inr (inl (plainly_called u set rs (to_see s) called)))
-          (c.in_ok-ask_plain_each.ensures.step.called (to_see s) h) in
-          let second = Brings-trans u Called Own old plain named seen_plain first
-          (barred_brings u (IsNamedBy u vs) Called (λ n h. inr h) Own plain named c.ask_each.ensures.adds) in
-          let required = notes_in c.read_requirements.new.self in
-          let seen_named : (s : g.row.S.Denot) → Contains named.seen s → Contains old.seen s ⊎ Called (to_see s) =
-          λ s h. ⊎_elim (λ was. seen_plain s was) (λ called. inr (inr called)) (c.in_ok-ask_each.ensures.step.called (to_see s) h) in
-          let third = Brings-trans u Called Own old named required seen_named second
-          (Brings-weaker u (IsCalledByEach u set rs) Called (λ n h. inl h) (IsOwn u by (with_requirements rs)) Own
-          (IsOwn-within u by (with_requirements rs) demands (λ r h. h) (none_within vs)) named required c.read_requirements.ensures.brings) in
-          third;
-      room = KeepsRoom-trans _ _ _ c.ask_plain_each.ensures.room (KeepsRoom-trans _ _ _ c.ask_each.ensures.room c.read_requirements.ensures.room);
-      is_true = c.read_requirements.ensures.is_true;
-      step = IfOk-from_err c.from_residual-in_err-read_requirements.result _ c.from_residual-in_err-read_requirements.ensures.0;
-      read = IfOk-from_err c.from_residual-in_err-read_requirements.result _ c.from_residual-in_err-read_requirements.ensures.0;
-      refusal = IfErr-of c.from_residual-in_err-read_requirements.result _ _ c.from_residual-in_err-read_requirements.ensures.1
-          c.in_err-read_requirements.ensures.refusal;
-    }
-
-pub returns-in_err-read_constraints : goal.returns-in_err-read_constraints
-returns-in_err-read_constraints g c =
-    record {
-      brings = let u = g.D.Interner.universe c.args.provider.now in
-          let by = c.args.by in
-          let set = c.args.chosen.now.keys in
-          let rs = c.args.requirements.now in
-          let vs = c.args.constraints.now in
-          let demands : Demands = record { requirements = rs; constraints = vs } in
-          let Plainly : Call g.row.N.Denot g.row.S.Denot → Type 0 = λ n. (r : ConditionalRequirement) × Contains rs r × IsPlainlyNamed u r n in
-          let Called = IsDemanded u set demands in
-          let Own : Origin g.row.N.Denot g.row.S.Denot → Type 0 = IsOwn u by demands in
-          let old = notes_in c.args.self.now in
-          let plain = notes_in c.ask_plain_each.new.self in
-          let first = barred_brings u Plainly Called (λ n h. inl (plainly_called u set rs n h)) Own old plain c.ask_plain_each.ensures.adds in
-          let named = notes_in c.ask_each.new.self in
-          let seen_plain : (s : g.row.S.Denot) → Contains plain.seen s → Contains old.seen s ⊎ Called (to_see s) =
-          λ s h. ⊎_elim (λ was. inl was) (λ called. inr (inl (plainly_called u set rs (to_see s) called)))
-          (c.in_ok-ask_plain_each.ensures.step.called (to_see s) h) in
-          let second = Brings-trans u Called Own old plain named seen_plain first
-          (barred_brings u (IsNamedBy u vs) Called (λ n h. inr h) Own plain named c.ask_each.ensures.adds) in
-          let required = notes_in c.read_requirements.new.self in
-          let seen_named : (s : g.row.S.Denot) → Contains named.seen s → Contains old.seen s ⊎ Called (to_see s) =
-          λ s h. ⊎_elim (λ was. seen_plain s was) (λ called. inr (inr called)) (c.in_ok-ask_each.ensures.step.called (to_see s) h) in
-          let third = Brings-trans u Called Own old named required seen_named second
-          (Brings-weaker u (IsCalledByEach u set rs) Called (λ n h. inl h) (IsOwn u by (with_requirements rs)) Own
-          (IsOwn-within u by (with_requirements rs) demands (λ r h. h) (none_within vs)) named required c.read_requirements.ensures.brings) in
-          let new = notes_in c.read_constraints.new.self in
-          let seen_required : (s : g.row.S.Denot) → Contains required.seen s → Contains old.seen s ⊎ Called (to_see s) =
-          λ s h. ⊎_elim (λ was. seen_named s was) (λ called. inr (inl called)) (c.in_ok-read_requirements.ensures.step.called (to_see s) h) in
-          Brings-trans u Called Own old required new seen_required third
-          (Brings-weaker u (IsNamedBy u vs) Called (λ n h. inr h) (IsOwn u by (with_constraints vs)) Own
-          (IsOwn-within u by (with_constraints vs) demands (none_within rs) (λ v h. h)) required new c.read_constraints.ensures.brings);
-      room = KeepsRoom-trans _ _ _ c.ask_plain_each.ensures.room (KeepsRoom-trans _ _ _ c.ask_each.ensures.room
-          (KeepsRoom-trans _ _ _ c.read_requirements.ensures.room c.read_constraints.ensures.room));
-      is_true = c.read_constraints.ensures.is_true;
-      step = IfOk-from_err c.from_residual-in_err-read_constraints.result _ c.from_residual-in_err-read_constraints.ensures.0;
-      read = IfOk-from_err c.from_residual-in_err-read_constraints.result _ c.from_residual-in_err-read_constraints.ensures.0;
-      refusal = IfErr-of c.from_residual-in_err-read_constraints.result _ _ c.from_residual-in_err-read_constraints.ensures.1
-          c.in_err-read_constraints.ensures.refusal;
-    }
-
 pub returns : goal.returns
 returns g c =
     record {
@@ -225,36 +92,6 @@ returns g c =
             constraints = c.in_ok-read_constraints.ensures.read;
             packages = c.in_ok-read_constraints.ensures.asked;
           };
-      brings = let u = g.D.Interner.universe c.args.provider.now in
-          let by = c.args.by in
-          let set = c.args.chosen.now.keys in
-          let rs = c.args.requirements.now in
-          let vs = c.args.constraints.now in
-          let demands : Demands = record { requirements = rs; constraints = vs } in
-          let Plainly : Call g.row.N.Denot g.row.S.Denot → Type 0 = λ n. (r : ConditionalRequirement) × Contains rs r × IsPlainlyNamed u r n in
-          let Called = IsDemanded u set demands in
-          let Own : Origin g.row.N.Denot g.row.S.Denot → Type 0 = IsOwn u by demands in
-          let old = notes_in c.args.self.now in
-          let plain = notes_in c.ask_plain_each.new.self in
-          let first = barred_brings u Plainly Called (λ n h. inl (plainly_called u set rs n h)) Own old plain c.ask_plain_each.ensures.adds in
-          let named = notes_in c.ask_each.new.self in
-          let seen_plain : (s : g.row.S.Denot) → Contains plain.seen s → Contains old.seen s ⊎ Called (to_see s) =
-          λ s h. ⊎_elim (λ was. inl was) (λ called. inr (inl (plainly_called u set rs (to_see s) called)))
-          (c.in_ok-ask_plain_each.ensures.step.called (to_see s) h) in
-          let second = Brings-trans u Called Own old plain named seen_plain first
-          (barred_brings u (IsNamedBy u vs) Called (λ n h. inr h) Own plain named c.ask_each.ensures.adds) in
-          let required = notes_in c.read_requirements.new.self in
-          let seen_named : (s : g.row.S.Denot) → Contains named.seen s → Contains old.seen s ⊎ Called (to_see s) =
-          λ s h. ⊎_elim (λ was. seen_plain s was) (λ called. inr (inr called)) (c.in_ok-ask_each.ensures.step.called (to_see s) h) in
-          let third = Brings-trans u Called Own old named required seen_named second
-          (Brings-weaker u (IsCalledByEach u set rs) Called (λ n h. inl h) (IsOwn u by (with_requirements rs)) Own
-          (IsOwn-within u by (with_requirements rs) demands (λ r h. h) (none_within vs)) named required c.read_requirements.ensures.brings) in
-          let new = notes_in c.read_constraints.new.self in
-          let seen_required : (s : g.row.S.Denot) → Contains required.seen s → Contains old.seen s ⊎ Called (to_see s) =
-          λ s h. ⊎_elim (λ was. seen_named s was) (λ called. inr (inl called)) (c.in_ok-read_requirements.ensures.step.called (to_see s) h) in
-          Brings-trans u Called Own old required new seen_required third
-          (Brings-weaker u (IsNamedBy u vs) Called (λ n h. inr h) (IsOwn u by (with_constraints vs)) Own
-          (IsOwn-within u by (with_constraints vs) demands (none_within rs) (λ v h. h)) required new c.read_constraints.ensures.brings);
       is_true = c.read_constraints.ensures.is_true;
       room = KeepsRoom-trans _ _ _ c.ask_plain_each.ensures.room (KeepsRoom-trans _ _ _ c.ask_each.ensures.room
           (KeepsRoom-trans _ _ _ c.read_requirements.ensures.room c.read_constraints.ensures.room));

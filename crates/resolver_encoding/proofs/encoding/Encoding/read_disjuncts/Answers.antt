@@ -1,6 +1,6 @@
-use Rattle.std.proofs.Common.{sym, subst, arith, Contains, List, map, ◌∷◌, []}
+use Rattle.std.proofs.Common.{sym, subst, arith, Contains, List, map}
 use Rattle.std.proofs.lemmas.List.Elements.{All-map, All-nil}
-use Rattle.resolver_encoding.specs.Called.{IsCalledBy, to_see}
+use Rattle.resolver_encoding.specs.Called.{IsCalledBy}
 use Rattle.resolver_encoding.specs.Encodings.{HasRequirement, IsDisjunctRead, IsUnmet}
 use Rattle.resolver_encoding.specs.Notes.{notes_in}
 use Rattle.resolver_clause_store.proofs.SetLemmas.{All-done, Contains-item}
@@ -9,9 +9,6 @@ use Rattle.resolver_encoding.proofs.NoteLemmas.{All-grown}
 use Rattle.resolver_clause_store.specs.declared.VersionSetId.{VersionSetId}
 use Rattle.resolver_encoding.proofs.RequirementLemmas.{IsDisjunctRead-grown, items_of, requirement_read}
 use Rattle.resolver_clause_store.proofs.ListLemmas.{Contains-map}
-use Rattle.resolver_clause_store.specs.declared.Origin.{Origin}
-use Rattle.resolver_encoding.specs.Led.{IsOwn, with_requirements}
-use Rattle.resolver_encoding.proofs.LedLemmas.{Brings-same, Brings-trans}
 use Rattle.resolver_encoding.proofs.RoomLemmas.{KeepsRoom-same, KeepsRoom-trans}
 use Rattle.resolver_encoding.proofs.encoding.Encoding.read_disjuncts.Goals as goal
 
@@ -20,8 +17,6 @@ loop-disjunct-init g c =
     let u = g.D.Interner.universe c.args.provider.now in
     let set = c.args.chosen.now.keys in
     record {
-      brings = λ root asks before. Brings-same u (IsCalledBy u set c.args.requirement) (IsOwn u c.args.by (with_requirements (c.args.requirement ∷ [])))
-          (notes_in c.args.self.now);
       room = KeepsRoom-same _ c.requires.bounded;
       step = IsReadStep-same u (IsUnmet u set c.args.by) (IsCalledBy u set c.args.requirement) (HasRequirement u c.args.by c.args.requirement)
           (notes_in c.args.self.now);
@@ -49,18 +44,6 @@ loop-disjunct-preserved g c =
     let before = c.loop-disjunct.invariant in
     let step = c.in_ok-read_disjunct.ensures.step in
     record {
-      brings = λ root asks before.
-          let u = g.D.Interner.universe c.args.provider.now in
-          let r = c.args.requirement in
-          let by = c.args.by in
-          let set = c.args.chosen.now.keys in
-          let Called = IsCalledBy u set r in
-          let Own : Origin g.row.N.Denot g.row.S.Denot → Type 0 = IsOwn u by (with_requirements (r ∷ [])) in
-          let old = notes_in c.args.self.now in
-          let here = c.loop-disjunct.invariant in
-          let mid = notes_in c.loop-disjunct.self in
-          Brings-trans u Called Own old mid (notes_in c.read_disjunct.new.self) (λ s h. here.step.called (to_see s) h) (here.brings root asks before)
-          (c.read_disjunct.ensures.brings root (here.step.keeps root asks before));
       room = KeepsRoom-trans _ _ _ before.room c.read_disjunct.ensures.room;
       step = IsReadStep-trans u (IsUnmet u set c.args.by) (IsCalledBy u set r) (HasRequirement u c.args.by r) _ _ _ before.step step;
       read = All-grown (λ list. IsDisjunctRead (notes_in c.loop-disjunct.self) c.args.by r.requirement list.items) (λ list.
@@ -80,17 +63,3 @@ returns-clause-read g c =
     (All-map (IsDisjunctRead notes c.args.by r.requirement) items_of c.args.disjuncts.now
     (All-done (λ list. IsDisjunctRead notes c.args.by r.requirement list.items) c.args.disjuncts.now c.loop-disjunct.disjunct-index
     (omega arith) c.loop-disjunct.invariant.read))
-
-pub returns-in_err-read_disjunct-clause-brings : goal.returns-in_err-read_disjunct-clause-brings
-returns-in_err-read_disjunct-clause-brings g c = λ root asks before.
-    let u = g.D.Interner.universe c.args.provider.now in
-    let r = c.args.requirement in
-    let by = c.args.by in
-    let set = c.args.chosen.now.keys in
-    let Called = IsCalledBy u set r in
-    let Own : Origin g.row.N.Denot g.row.S.Denot → Type 0 = IsOwn u by (with_requirements (r ∷ [])) in
-    let old = notes_in c.args.self.now in
-    let here = c.loop-disjunct.invariant in
-    let mid = notes_in c.loop-disjunct.self in
-    Brings-trans u Called Own old mid (notes_in c.read_disjunct.new.self) (λ s h. here.step.called (to_see s) h) (here.brings root asks before)
-    (c.read_disjunct.ensures.brings root (here.step.keeps root asks before))

@@ -3,10 +3,6 @@ use Rattle.resolver_clause_store.specs.Caches.{IsTrueCache}
 use Rattle.resolver_encoding.specs.Called.{IsCalledBy}
 use Rattle.resolver_encoding.specs.Encodings.{HasRequirement, IsDisjunctRead, IsReadStep, IsUnmet}
 use Rattle.resolver_encoding.specs.Notes.{KeepsRoom, notes_in}
-use Rattle.std.proofs.Common.{◌∷◌, []}
-use Rattle.resolver_clause_store.specs.Universe.{Demands}
-use Rattle.resolver_encoding.specs.Led.{Brings, IsOwn, with_requirements}
-use Rattle.resolver_encoding.specs.Encodings.{IsEncoding}
 use Rattle.resolver_encoding.proofs.encoding.Encoding.read_disjuncts.Given as goal
 
 abbrev pub invariant-loop-disjunct : goal.invariant-loop-disjunct
@@ -17,8 +13,4 @@ invariant-loop-disjunct g l = record {
       (notes_in l.fn.self) (notes_in l.self);
   read : All (λ list. IsDisjunctRead (notes_in l.self) l.by l.requirement.requirement list.items) (take l.disjunct-index l.disjuncts);
   is_true : IsTrueCache (g.D.Interner.universe l.provider) l.cache;
-  brings : (root : Demands) → HasRequirement (g.D.Interner.universe l.provider) l.by l.requirement root →
-      IsEncoding (g.D.Interner.universe l.provider) root (notes_in l.fn.self) →
-      Brings (g.D.Interner.universe l.provider) (IsCalledBy (g.D.Interner.universe l.provider) l.chosen.keys l.requirement)
-      (IsOwn (g.D.Interner.universe l.provider) l.by (with_requirements (l.requirement ∷ []))) (notes_in l.fn.self) (notes_in l.self);
 }

@@ -7,9 +7,6 @@ use Rattle.resolver_encoding.proofs.EncodingLemmas.{Contains-kept, Extends-withi
 use Rattle.resolver_encoding.proofs.SoFarLemmas.{AreEach-done, AreEach-more, AreEach-none, IsMoreOrSame-trans, IsReadingOf-same}
 use Rattle.resolver_encoding.proofs.SoFarLemmas.{IsReadingOf-trans, IsReadingOf-weaker, no_more_read}
 use Rattle.resolver_encoding.proofs.ReadLemmas.{seen_fit}
-use Rattle.resolver_clause_store.specs.Near.{IsNear}
-use Rattle.resolver_encoding.proofs.LedReading.{KeepsLed-same, KeepsLed-trans, led_read}
-use Rattle.resolver_encoding.proofs.ReachLemmas.{near_read}
 use Rattle.resolver_encoding.proofs.RoomLemmas.{KeepsRoom-same, KeepsRoom-trans}
 use Rattle.std.proofs.lemmas.Result.{IfOk-from_err}
 use Rattle.resolver_encoding.proofs.RefusalLemmas.{IfErr-of}
@@ -19,7 +16,6 @@ pub loop-place-init : goal.loop-place-init
 loop-place-init g c = let u = g.D.Interner.universe c.args.provider.now in
     let set = c.args.chosen.now.keys in
     record {
-      led = KeepsLed-same u set (notes_in c.args.self.now);
       room = KeepsRoom-same _ c.requires.bounded;
       half = c.requires.half;
       reading = IsReadingOf-same u set (Contains set) (notes_in c.args.self.now);
@@ -50,20 +46,6 @@ loop-place-preserved g c = let u = g.D.Interner.universe c.args.provider.now in
     let Among : g.row.S.Denot → Type 0 = λ t. Contains set t in
     let inside : Contains set s = (c.loop-place.place, omega arith, sym (subst At c.as_slice.ensures.keys c.index-as_slice-place.is)) in
     record {
-      led =
-          let u = g.D.Interner.universe c.args.provider.now in
-          let set = c.args.chosen.now.keys in
-          let here = c.loop-place.invariant in
-          let s = c.index-as_slice-place.result in
-          let At : List g.row.S.Denot → Type 0 = λ list. s ≡ get_or list c.loop-place.place s in
-          let inside : Contains set s = (c.loop-place.place, omega arith, sym (subst At c.as_slice.ensures.keys c.index-as_slice-place.is)) in
-          let one = notes_in c.args.self.now in
-          let two = notes_in c.loop-place.self in
-          let three = notes_in c.read_new.new.self in
-          KeepsLed-trans u set one two three
-          (λ root seeds packages near all.
-          near_read u root seeds packages set (Contains set) one two here.reading near all (λ t h. All-contains (IsNear u root seeds) set t all h))
-          here.led (led_read u set s two three (λ root seeds packages near all. All-contains (IsNear u root seeds) set s all inside) c.read_new.ensures.brings);
       room = KeepsRoom-trans _ _ _ before.room c.read_new.ensures.room;
       half = record { root = before.half.root; half = reading.keeps before.half.root before.half.half };
       reading = IsReadingOf-trans u set (Contains set) _ _ _ before.reading
@@ -83,31 +65,6 @@ pub returns-then-before-len-clause-fit : goal.returns-then-before-len-clause-fit
 returns-then-before-len-clause-fit g c = λ known. seen_fit g.S.PartialEq.eq g.met.D.Interner.solvables_are_values g.met.S.Eq.laws c.loop-place.self.read.keys
     (notes_in c.loop-place.self).origins c.len.ensures.unique known
 
-pub returns-in_err-read_new : goal.returns-in_err-read_new
-returns-in_err-read_new g c =
-    record {
-      led = let u = g.D.Interner.universe c.args.provider.now in
-          let set = c.args.chosen.now.keys in
-          let here = c.loop-place.invariant in
-          let s = c.index-as_slice-place.result in
-          let At : List g.row.S.Denot → Type 0 = λ list. s ≡ get_or list c.loop-place.place s in
-          let inside : Contains set s = (c.loop-place.place, omega arith, sym (subst At c.as_slice.ensures.keys c.index-as_slice-place.is)) in
-          let one = notes_in c.args.self.now in
-          let two = notes_in c.loop-place.self in
-          let three = notes_in c.read_new.new.self in
-          KeepsLed-trans u set one two three
-          (λ root seeds packages near all.
-          near_read u root seeds packages set (Contains set) one two here.reading near all (λ t h. All-contains (IsNear u root seeds) set t all h))
-          here.led (led_read u set s two three (λ root seeds packages near all. All-contains (IsNear u root seeds) set s all inside) c.read_new.ensures.brings);
-      room = KeepsRoom-trans _ _ _ c.loop-place.invariant.room c.read_new.ensures.room;
-      is_true = c.read_new.ensures.is_true;
-      reading = IfOk-from_err c.from_residual.result _ c.from_residual.ensures.0;
-      here = IfOk-from_err c.from_residual.result _ c.from_residual.ensures.0;
-      any_new = IfOk-from_err c.from_residual.result _ c.from_residual.ensures.0;
-      fit = IfOk-from_err c.from_residual.result _ c.from_residual.ensures.0;
-      refusal = IfErr-of c.from_residual.result _ _ c.from_residual.ensures.1 c.in_err-read_new.ensures.refusal;
-    }
-
 pub returns : goal.returns
 returns g c =
     record {
@@ -119,6 +76,5 @@ returns g c =
       room = c.loop-place.invariant.room;
       is_true = c.loop-place.invariant.is_true;
       reading = c.loop-place.invariant.reading;
-      led = c.loop-place.invariant.led;
       refusal = tt;
     }

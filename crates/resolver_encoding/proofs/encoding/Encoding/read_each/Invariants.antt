@@ -3,7 +3,6 @@ use Rattle.resolver_clause_store.specs.Caches.{IsTrueCache}
 use Rattle.resolver_encoding.specs.Notes.{KeepsRoom, notes_in}
 use Rattle.resolver_encoding.specs.SoFar.{IsHalfReading, IsMoreOrSame, IsReadingOf}
 use Rattle.resolver_encoding.proofs.SoFarLemmas.{AreEach}
-use Rattle.resolver_encoding.specs.Led.{KeepsLed}
 use Rattle.resolver_encoding.proofs.encoding.Encoding.read_each.Given as goal
 
 abbrev pub invariant-loop-place : goal.invariant-loop-place
@@ -14,5 +13,4 @@ invariant-loop-place g l = record {
   read : AreEach (Contains (notes_in l.self).read) l.chosen.keys l.from l.place;
   more : IsMoreOrSame (notes_in l.fn.self) (notes_in l.self);
   is_true : IsTrueCache (g.D.Interner.universe l.provider) l.cache;
-  led : KeepsLed (g.D.Interner.universe l.provider) l.chosen.keys (notes_in l.fn.self) (notes_in l.self);
 }

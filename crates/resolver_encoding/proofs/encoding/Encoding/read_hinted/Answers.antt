@@ -4,7 +4,6 @@ use Rattle.resolver_encoding.specs.Hints.{AreHintsReadTo}
 use Rattle.resolver_encoding.specs.Notes.{notes_in}
 use Rattle.resolver_encoding.specs.SoFar.{HasRead}
 use Rattle.resolver_encoding.proofs.HintLemmas.{HasRead-then, hinted_later, hinted_none, hinted_trans, hints_grown, hints_joined, hints_none, longer}
-use Rattle.resolver_encoding.proofs.LedReading.{KeepsLed-same, KeepsLed-trans}
 use Rattle.resolver_encoding.proofs.RoomLemmas.{KeepsRoom-same, KeepsRoom-trans}
 use Rattle.resolver_encoding.proofs.encoding.Encoding.read_hinted.Goals as goal
 
@@ -13,7 +12,6 @@ waves-init g c =
     let u = g.D.Interner.universe c.args.provider.now in
     let notes = notes_in c.args.self.now in
     record {
-      led = KeepsLed-same u c.args.chosen.now.keys notes;
       room = KeepsRoom-same _ c.requires.bounded;
       half = c.requires.half;
       reading = hinted_none u c.args.chosen.now.keys c.args.from notes;
@@ -39,8 +37,6 @@ waves-preserved g c =
     let now : HasRead two three true = subst Was c.if-not-branch.false found.any_new in
     let more : length two.requirements ≤ length three.requirements = longer two.requirements three.requirements reading.requirements in
     record {
-      led = KeepsLed-trans (g.D.Interner.universe c.args.provider.now) c.args.chosen.now.keys (notes_in c.args.self.now) (notes_in c.waves.self)
-          (notes_in c.read_hinted_each.new.self) c.waves.invariant.reading.near c.waves.invariant.led c.read_hinted_each.ensures.led;
       room = KeepsRoom-trans _ _ _ before.room c.read_hinted_each.ensures.room;
       half = record { root = before.half.root; half = reading.keeps before.half.root before.half.half };
       reading = hinted_trans u set c.requires.half.root c.args.from one two three c.requires.half.half before.reading
@@ -67,8 +63,6 @@ waves-smaller g c =
 pub returns-then-not-branch-clause-here : goal.returns-then-not-branch-clause-here
 returns-then-not-branch-clause-here g c =
     let u = g.D.Interner.universe c.args.provider.now in
-    let set = c.args.chosen.now.keys in
-    let one = notes_in c.args.self.now in
     let two = notes_in c.waves.self in
     let three = notes_in c.read_hinted_each.new.self in
     let before = c.waves.invariant in
@@ -106,13 +100,3 @@ returns-then-not-branch-clause-any_new g c =
     let same : three ≡ two = subst Was c.if-not-branch.true c.in_ok-read_hinted_each.ensures.any_new in
     let Then : Notes g.row.N.Denot g.row.S.Denot → Type 0 = λ n. HasRead one n c.waves.any in
     subst Then (sym same) c.waves.invariant.any_new
-
-pub returns-in_err-read_hinted_each-clause-led : goal.returns-in_err-read_hinted_each-clause-led
-returns-in_err-read_hinted_each-clause-led g c =
-    KeepsLed-trans (g.D.Interner.universe c.args.provider.now) c.args.chosen.now.keys (notes_in c.args.self.now) (notes_in c.waves.self)
-    (notes_in c.read_hinted_each.new.self) c.waves.invariant.reading.near c.waves.invariant.led c.read_hinted_each.ensures.led
-
-pub returns-then-not-branch-clause-led : goal.returns-then-not-branch-clause-led
-returns-then-not-branch-clause-led g c =
-    KeepsLed-trans (g.D.Interner.universe c.args.provider.now) c.args.chosen.now.keys (notes_in c.args.self.now) (notes_in c.waves.self)
-    (notes_in c.read_hinted_each.new.self) c.waves.invariant.reading.near c.waves.invariant.led c.read_hinted_each.ensures.led

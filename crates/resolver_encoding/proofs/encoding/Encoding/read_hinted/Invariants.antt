@@ -3,7 +3,6 @@ use Rattle.resolver_clause_store.specs.Caches.{IsTrueCache}
 use Rattle.resolver_encoding.specs.Hints.{AreHintsReadTo}
 use Rattle.resolver_encoding.specs.Notes.{KeepsRoom, notes_in}
 use Rattle.resolver_encoding.specs.SoFar.{HasRead, IsHalfReading, IsHintedReading}
-use Rattle.resolver_encoding.specs.Led.{KeepsLed}
 use Rattle.resolver_encoding.proofs.encoding.Encoding.read_hinted.Given as goal
 
 abbrev pub invariant-waves : goal.invariant-waves
@@ -14,7 +13,6 @@ invariant-waves g l = record {
   forward : l.from ≤ l.place;
   within : l.place ≤ length (notes_in l.self).requirements;
   read : AreHintsReadTo (g.D.Interner.universe l.provider) l.from l.place (notes_in l.self);
-  led : KeepsLed (g.D.Interner.universe l.provider) l.chosen.keys (notes_in l.fn.self) (notes_in l.self);
   any_new : HasRead (notes_in l.fn.self) (notes_in l.self) l.any;
   is_true : IsTrueCache (g.D.Interner.universe l.provider) l.cache;
 }

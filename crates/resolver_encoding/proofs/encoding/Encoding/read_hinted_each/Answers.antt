@@ -3,7 +3,6 @@ use Rattle.resolver_encoding.specs.Notes.{notes_in}
 use Rattle.resolver_encoding.proofs.HintLemmas.{hinted_later, hinted_none, hinted_trans, hints_at, hints_grown, hints_joined, hints_none, hints_until, longer}
 use Rattle.resolver_encoding.proofs.ReadLemmas.{seen_fit}
 use Rattle.resolver_encoding.proofs.SoFarLemmas.{IsMoreOrSame-trans, no_more_read}
-use Rattle.resolver_encoding.proofs.LedReading.{KeepsLed-same, KeepsLed-trans}
 use Rattle.resolver_encoding.proofs.RoomLemmas.{KeepsRoom-same, KeepsRoom-trans}
 use Rattle.resolver_encoding.proofs.encoding.Encoding.read_hinted_each.Goals as goal
 
@@ -11,7 +10,6 @@ pub loop-place-init : goal.loop-place-init
 loop-place-init g c =
     let u = g.D.Interner.universe c.args.provider.now in
     record {
-      led = KeepsLed-same u c.args.chosen.now.keys (notes_in c.args.self.now);
       room = KeepsRoom-same _ c.requires.bounded;
       half = c.requires.half;
       reading = hinted_none u c.args.chosen.now.keys c.args.from (notes_in c.args.self.now);
@@ -40,8 +38,6 @@ loop-place-preserved g c =
     let half = before.half in
     let more : length one.requirements ≤ length two.requirements = longer one.requirements two.requirements before.reading.reading.requirements in
     record {
-      led = KeepsLed-trans (g.D.Interner.universe c.args.provider.now) c.args.chosen.now.keys (notes_in c.args.self.now) (notes_in c.loop-place.self)
-          (notes_in c.read_hinted_at.new.self) c.loop-place.invariant.reading.near c.loop-place.invariant.led c.read_hinted_at.ensures.led;
       room = KeepsRoom-trans _ _ _ before.room c.read_hinted_at.ensures.room;
       half = record { root = half.root; half = reading.keeps half.root half.half };
       reading = hinted_trans u set c.requires.half.root c.args.from one two three c.requires.half.half before.reading
@@ -81,8 +77,3 @@ returns-clause-fit g c =
 
 pub returns-clause-any_new : goal.returns-clause-any_new
 returns-clause-any_new g c = no_more_read _ _ c.loop-place.invariant.more (omega (arith, c.len.ensures.len, c.len-before.ensures.len))
-
-pub returns-in_err-read_hinted_at-clause-led : goal.returns-in_err-read_hinted_at-clause-led
-returns-in_err-read_hinted_at-clause-led g c =
-    KeepsLed-trans (g.D.Interner.universe c.args.provider.now) c.args.chosen.now.keys (notes_in c.args.self.now) (notes_in c.loop-place.self)
-    (notes_in c.read_hinted_at.new.self) c.loop-place.invariant.reading.near c.loop-place.invariant.led c.read_hinted_at.ensures.led

@@ -2,7 +2,6 @@ use Rattle.resolver_clause_store.specs.Caches.{IsTrueCache}
 use Rattle.resolver_encoding.specs.Hints.{AreHintsReadTo}
 use Rattle.resolver_encoding.specs.Notes.{KeepsRoom, notes_in}
 use Rattle.resolver_encoding.specs.SoFar.{IsHalfReading, IsHintedReading, IsMoreOrSame}
-use Rattle.resolver_encoding.specs.Led.{KeepsLed}
 use Rattle.resolver_encoding.proofs.encoding.Encoding.read_hinted_each.Given as goal
 
 abbrev pub invariant-loop-place : goal.invariant-loop-place
@@ -13,5 +12,4 @@ invariant-loop-place g l = record {
   read : AreHintsReadTo (g.D.Interner.universe l.provider) l.from l.place (notes_in l.self);
   more : IsMoreOrSame (notes_in l.fn.self) (notes_in l.self);
   is_true : IsTrueCache (g.D.Interner.universe l.provider) l.cache;
-  led : KeepsLed (g.D.Interner.universe l.provider) l.chosen.keys (notes_in l.fn.self) (notes_in l.self);
 }

@@ -1,7 +1,7 @@
-use Rattle.std.proofs.Common.{arith, All, ◌<◌, length, ◌∷◌, []}
+use Rattle.std.proofs.Common.{arith, All, ◌<◌, length}
 use Rattle.std.proofs.lemmas.List.Elements.{All-get_or, All-nil}
 use Rattle.resolver_clause_store.specs.Universe.{Demands}
-use Rattle.resolver_encoding.specs.Called.{IsCalledBy, IsCalledByEach, to_see}
+use Rattle.resolver_encoding.specs.Called.{IsCalledBy, IsCalledByEach}
 use Rattle.resolver_encoding.specs.Encodings.{HasRequirement, IsLeft, IsUnmet}
 use Rattle.resolver_encoding.specs.Notes.{notes_in}
 use Rattle.resolver_encoding.specs.ReadState.{IsReadRequirement}
@@ -11,10 +11,6 @@ use Rattle.resolver_encoding.proofs.EncodingLemmas.{IsReadStep-weaker}
 use Rattle.resolver_encoding.proofs.NoteLemmas.{All-grown_at}
 use Rattle.resolver_encoding.proofs.ReadLemmas.{IsReadRequirement-within}
 use Rattle.resolver_encoding.proofs.RequirementLemmas.{called_here}
-use Rattle.std.proofs.lemmas.List.Elements.{Contains-get_or}
-use Rattle.resolver_clause_store.specs.declared.Origin.{Origin}
-use Rattle.resolver_encoding.specs.Led.{IsOwn, with_requirements}
-use Rattle.resolver_encoding.proofs.LedLemmas.{Brings-same, Brings-trans, Brings-weaker, IsOwn-within, none_within, one_within}
 use Rattle.resolver_encoding.proofs.RoomLemmas.{KeepsRoom-same, KeepsRoom-trans}
 use Rattle.resolver_encoding.proofs.encoding.Encoding.read_requirements.Goals as goal
 
@@ -24,7 +20,6 @@ loop-requirement-init g c =
     let set = c.args.chosen.now.keys in
     let old = notes_in c.args.self.now in
     record {
-      brings = Brings-same u (IsCalledByEach u set c.args.requirements.now) (IsOwn u c.args.by (with_requirements c.args.requirements.now)) old;
       room = KeepsRoom-same _ c.requires.bounded;
       step = IsReadStep-same u (IsUnmet u set c.args.by) (IsCalledByEach u set c.args.requirements.now) (λ root.
           All (λ r. HasRequirement u c.args.by r root) c.args.requirements.now) old;
@@ -58,14 +53,6 @@ loop-requirement-preserved g c =
     let new = notes_in c.read_requirement.new.self in
     let Premise : Demands → Type 0 = λ root. All (λ r. HasRequirement u by r root) xs in
     record {
-      brings =
-          let Called = IsCalledByEach u set xs in
-          let Own : Origin g.row.N.Denot g.row.S.Denot → Type 0 = IsOwn u by (with_requirements xs) in
-          let old = notes_in c.args.self.now in
-          Brings-trans u Called Own old mid new (λ s h. before.step.called (to_see s) h) before.brings
-          (Brings-weaker u (IsCalledBy u set _) Called (λ n called. called_here u set xs i _ n below called) (IsOwn u by (with_requirements (_ ∷ []))) Own
-          (IsOwn-within u by (with_requirements (_ ∷ [])) (with_requirements xs) (one_within _ xs (Contains-get_or xs i _ below))
-          (none_within [])) mid new c.read_requirement.ensures.brings);
       room = KeepsRoom-trans _ _ _ before.room c.read_requirement.ensures.room;
       step = IsReadStep-trans u (IsUnmet u set by) (IsCalledByEach u set xs) Premise _ _ _ before.step
           (IsReadStep-weaker u (IsUnmet u set by) (IsCalledBy u set _) (IsCalledByEach u set xs) (λ n called. called_here u set xs i _ n below called)
@@ -82,22 +69,3 @@ returns-clause-read g c =
     let notes = notes_in c.loop-requirement.self in
     All-done (IsReadRequirement u notes.kinds (IsLeft notes) c.args.by) c.args.requirements.now c.loop-requirement.requirement-index
     (omega arith) c.loop-requirement.invariant.read
-
-pub returns-in_err-read_requirement-clause-brings : goal.returns-in_err-read_requirement-clause-brings
-returns-in_err-read_requirement-clause-brings g c =
-    let u = g.D.Interner.universe c.args.provider.now in
-    let by = c.args.by in
-    let set = c.args.chosen.now.keys in
-    let xs = c.args.requirements.now in
-    let i = c.loop-requirement.requirement-index in
-    let below : i < length xs = omega arith in
-    let Called = IsCalledByEach u set xs in
-    let Own : Origin g.row.N.Denot g.row.S.Denot → Type 0 = IsOwn u by (with_requirements xs) in
-    let old = notes_in c.args.self.now in
-    let mid = notes_in c.loop-requirement.self in
-    let new = notes_in c.read_requirement.new.self in
-    let before = c.loop-requirement.invariant in
-    Brings-trans u Called Own old mid new (λ s h. before.step.called (to_see s) h) before.brings
-    (Brings-weaker u (IsCalledBy u set _) Called (λ n called. called_here u set xs i _ n below called) (IsOwn u by (with_requirements (_ ∷ []))) Own
-    (IsOwn-within u by (with_requirements (_ ∷ [])) (with_requirements xs) (one_within _ xs (Contains-get_or xs i _ below))
-    (none_within [])) mid new c.read_requirement.ensures.brings)

@@ -4,7 +4,6 @@ use Rattle.resolver_encoding.specs.Called.{IsCalledByEach}
 use Rattle.resolver_encoding.specs.Encodings.{HasRequirement, IsLeft, IsReadStep, IsUnmet}
 use Rattle.resolver_encoding.specs.Notes.{KeepsRoom, notes_in}
 use Rattle.resolver_encoding.specs.ReadState.{IsReadRequirement}
-use Rattle.resolver_encoding.specs.Led.{Brings, IsOwn, with_requirements}
 use Rattle.resolver_encoding.proofs.encoding.Encoding.read_requirements.Given as goal
 
 abbrev pub invariant-loop-requirement : goal.invariant-loop-requirement
@@ -16,6 +15,4 @@ invariant-loop-requirement g l = record {
   read : All (IsReadRequirement (g.D.Interner.universe l.provider) (notes_in l.self).kinds (IsLeft (notes_in l.self)) l.by)
       (take l.requirement-index l.requirements);
   is_true : IsTrueCache (g.D.Interner.universe l.provider) l.cache;
-  brings : Brings (g.D.Interner.universe l.provider) (IsCalledByEach (g.D.Interner.universe l.provider) l.chosen.keys l.requirements)
-      (IsOwn (g.D.Interner.universe l.provider) l.by (with_requirements l.requirements)) (notes_in l.fn.self) (notes_in l.self);
 }

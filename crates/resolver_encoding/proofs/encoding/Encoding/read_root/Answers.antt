@@ -13,8 +13,6 @@ use Rattle.resolver_encoding.proofs.HintLemmas.{asked_on, so_far_on}
 use Rattle.resolver_encoding.proofs.ReachLemmas.{root_near}
 use Rattle.resolver_encoding.proofs.SoFarLemmas.{root_asked, root_so_far}
 use Rattle.resolver_clause_store.proofs.ListLemmas.{Contains-none as none_in}
-use Rattle.resolver_encoding.specs.Led.{Brings, IsOwn}
-use Rattle.resolver_encoding.proofs.LedReading.{bare_near, led_bare, led_root}
 use Rattle.std.proofs.lemmas.Result.{IfOk-from_err}
 use Rattle.resolver_encoding.proofs.RefusalLemmas.{IfErr-of}
 use Rattle.resolver_encoding.proofs.RoomLemmas.{KeepsRoom-trans}
@@ -34,90 +32,6 @@ read_hinted-requires-clause-half g c = let u = g.D.Interner.universe c.args.prov
     let so = root_so_far u root bare mid step c.in_ok-install_root.ensures.nothing
     (c.in_ok-install_root.ensures.installed root) c.in_ok-read_demands.ensures.read in
     record { root = root; half = so.half }
-
-pub returns-in_err-install_root : goal.returns-in_err-install_root
-returns-in_err-install_root g c =
-    record {
-      led = λ seeds packages.
-          let u = g.D.Interner.universe c.args.provider.now in
-          let root : Demands = record { requirements = c.args.requirements.now; constraints = c.args.constraints.now } in
-          let old = notes_in c.args.self.now in
-          let bare = notes_in c.install_root.new.self in
-          let first = led_bare u root seeds packages old bare c.requires.nothing_read.no_origins c.requires.nothing_read.none_deferred
-          c.install_root.ensures.adds in
-          first;
-      bounded = c.install_root.ensures.room.bounded;
-      is_true = c.requires.is_true;
-      read = IfOk-from_err c.from_residual.result _ c.from_residual.ensures.0;
-      asked = IfOk-from_err c.from_residual.result _ c.from_residual.ensures.0;
-      near = IfOk-from_err c.from_residual.result _ c.from_residual.ensures.0;
-      reads = IfOk-from_err c.from_residual.result _ c.from_residual.ensures.0;
-      hinted = IfOk-from_err c.from_residual.result _ c.from_residual.ensures.0;
-      exempt = IfOk-from_err c.from_residual.result _ c.from_residual.ensures.0;
-      limits = (let it = c.install_root.ensures.room in record { variables = it.variables; clauses = it.clauses });
-      refusal = IfErr-of c.from_residual.result _ _ c.from_residual.ensures.1 c.in_err-install_root.ensures.refusal;
-    }
-
-pub returns-in_err-read_demands : goal.returns-in_err-read_demands
-returns-in_err-read_demands g c =
-    record {
-      led = λ seeds packages.
-          let u = g.D.Interner.universe c.args.provider.now in
-          let root : Demands = record { requirements = c.args.requirements.now; constraints = c.args.constraints.now } in
-          let old = notes_in c.args.self.now in
-          let bare = notes_in c.install_root.new.self in
-          let first = led_bare u root seeds packages old bare c.requires.nothing_read.no_origins c.requires.nothing_read.none_deferred
-          c.install_root.ensures.adds in
-          let mid = notes_in c.read_demands.new.self in
-          let Brought : List g.row.S.Denot → Type 0 = λ set. Brings u (IsDemanded u set root) (IsOwn u Root root) bare mid in
-          let second = led_root u root seeds packages bare mid (bare_near u root seeds packages bare c.in_ok-install_root.ensures.nothing)
-          (subst Brought c.new-none.ensures.empty c.read_demands.ensures.brings) first in
-          second;
-      bounded = c.read_demands.ensures.room.bounded;
-      is_true = c.read_demands.ensures.is_true;
-      read = IfOk-from_err c.from_residual-in_err-read_demands.result _ c.from_residual-in_err-read_demands.ensures.0;
-      asked = IfOk-from_err c.from_residual-in_err-read_demands.result _ c.from_residual-in_err-read_demands.ensures.0;
-      near = IfOk-from_err c.from_residual-in_err-read_demands.result _ c.from_residual-in_err-read_demands.ensures.0;
-      reads = IfOk-from_err c.from_residual-in_err-read_demands.result _ c.from_residual-in_err-read_demands.ensures.0;
-      hinted = IfOk-from_err c.from_residual-in_err-read_demands.result _ c.from_residual-in_err-read_demands.ensures.0;
-      exempt = IfOk-from_err c.from_residual-in_err-read_demands.result _ c.from_residual-in_err-read_demands.ensures.0;
-      limits = (let it = KeepsRoom-trans _ _ _ c.install_root.ensures.room c.read_demands.ensures.room in
-          record { variables = it.variables; clauses = it.clauses });
-      refusal = IfErr-of c.from_residual-in_err-read_demands.result _ _ c.from_residual-in_err-read_demands.ensures.1 c.in_err-read_demands.ensures.refusal;
-    }
-
-pub returns-in_err-read_hinted : goal.returns-in_err-read_hinted
-returns-in_err-read_hinted g c =
-    record {
-      led = λ seeds packages.
-          let u = g.D.Interner.universe c.args.provider.now in
-          let root : Demands = record { requirements = c.args.requirements.now; constraints = c.args.constraints.now } in
-          let old = notes_in c.args.self.now in
-          let bare = notes_in c.install_root.new.self in
-          let first = led_bare u root seeds packages old bare c.requires.nothing_read.no_origins c.requires.nothing_read.none_deferred
-          c.install_root.ensures.adds in
-          let mid = notes_in c.read_demands.new.self in
-          let Brought : List g.row.S.Denot → Type 0 = λ set. Brings u (IsDemanded u set root) (IsOwn u Root root) bare mid in
-          let second = led_root u root seeds packages bare mid (bare_near u root seeds packages bare c.in_ok-install_root.ensures.nothing)
-          (subst Brought c.new-none.ensures.empty c.read_demands.ensures.brings) first in
-          let Step : List g.row.S.Denot → Type 0 = λ set. IsReadStep u (IsUnmet u set Root) (IsDemanded u set root)
-          (λ r. demands_by u r Root ≡ root) bare mid in
-          let step = subst Step c.new-none.ensures.empty c.in_ok-read_demands.ensures.step in
-          let AllNear : List g.row.S.Denot → Type 0 = λ set. All (IsNear u root seeds) set in
-          c.read_hinted.ensures.led.led root seeds packages (root_near u root seeds packages bare mid step c.in_ok-install_root.ensures.nothing)
-          (subst AllNear (sym c.new-none.ensures.empty) (All-nil (IsNear u root seeds))) second;
-      bounded = c.read_hinted.ensures.room.bounded;
-      is_true = c.read_hinted.ensures.is_true;
-      read = IfOk-from_err c.from_residual-in_err-read_hinted.result _ c.from_residual-in_err-read_hinted.ensures.0;
-      asked = IfOk-from_err c.from_residual-in_err-read_hinted.result _ c.from_residual-in_err-read_hinted.ensures.0;
-      near = IfOk-from_err c.from_residual-in_err-read_hinted.result _ c.from_residual-in_err-read_hinted.ensures.0;
-      reads = IfOk-from_err c.from_residual-in_err-read_hinted.result _ c.from_residual-in_err-read_hinted.ensures.0;
-      hinted = IfOk-from_err c.from_residual-in_err-read_hinted.result _ c.from_residual-in_err-read_hinted.ensures.0;
-      exempt = IfOk-from_err c.from_residual-in_err-read_hinted.result _ c.from_residual-in_err-read_hinted.ensures.0;
-      limits = (let it = KeepsRoom-trans _ _ _ c.install_root.ensures.room (KeepsRoom-trans _ _ _ c.read_demands.ensures.room c.read_hinted.ensures.room) in
-          record { variables = it.variables; clauses = it.clauses });
-      refusal = IfErr-of c.from_residual-in_err-read_hinted.result _ _ c.from_residual-in_err-read_hinted.ensures.1 c.in_err-read_hinted.ensures.refusal;
-    }
 
 pub returns : goal.returns
 returns g c =
@@ -169,23 +83,6 @@ returns g c =
           ⊎_elim (λ (was : Contains (notes_in c.read_demands.new.self).read s). absurd (none_in s (subst Has none was))) (λ listed. listed)
           (c.in_ok-read_hinted.ensures.reading.reading.reads s h);
       exempt = c.in_ok-read_hinted.ensures.reading.reading.exempt ∙ c.in_ok-read_demands.ensures.step.exempt ∙ c.in_ok-install_root.ensures.exempt;
-      led = λ seeds packages.
-          let u = g.D.Interner.universe c.args.provider.now in
-          let root : Demands = record { requirements = c.args.requirements.now; constraints = c.args.constraints.now } in
-          let old = notes_in c.args.self.now in
-          let bare = notes_in c.install_root.new.self in
-          let first = led_bare u root seeds packages old bare c.requires.nothing_read.no_origins c.requires.nothing_read.none_deferred
-          c.install_root.ensures.adds in
-          let mid = notes_in c.read_demands.new.self in
-          let Brought : List g.row.S.Denot → Type 0 = λ set. Brings u (IsDemanded u set root) (IsOwn u Root root) bare mid in
-          let second = led_root u root seeds packages bare mid (bare_near u root seeds packages bare c.in_ok-install_root.ensures.nothing)
-          (subst Brought c.new-none.ensures.empty c.read_demands.ensures.brings) first in
-          let Step : List g.row.S.Denot → Type 0 = λ set. IsReadStep u (IsUnmet u set Root) (IsDemanded u set root)
-          (λ r. demands_by u r Root ≡ root) bare mid in
-          let step = subst Step c.new-none.ensures.empty c.in_ok-read_demands.ensures.step in
-          let AllNear : List g.row.S.Denot → Type 0 = λ set. All (IsNear u root seeds) set in
-          c.read_hinted.ensures.led.led root seeds packages (root_near u root seeds packages bare mid step c.in_ok-install_root.ensures.nothing)
-          (subst AllNear (sym c.new-none.ensures.empty) (All-nil (IsNear u root seeds))) second;
       bounded = c.read_hinted.ensures.room.bounded;
       is_true = c.read_hinted.ensures.is_true;
       hinted = c.in_ok-read_hinted.ensures.here;

@@ -9,10 +9,6 @@ use Rattle.resolver_encoding.specs.Called.{Call, IsDemanded}
 use Rattle.resolver_encoding.specs.Encodings.{IsUnmet}
 use Rattle.resolver_encoding.specs.Notes.{notes_in}
 use Rattle.resolver_encoding.proofs.EncodingLemmas.{IsAskStep-of, IsEncodingOf-weaker, IsReadStep-of, IsReadStep-weaker}
-use Rattle.resolver_clause_store.specs.declared.Origin.{Origin}
-use Rattle.resolver_clause_store.specs.declared.Origin.TheVariants.{Solvable as SolvableOrigin}
-use Rattle.resolver_encoding.specs.Led.{Brings, IsOwn, own_itself}
-use Rattle.resolver_encoding.proofs.LedLemmas.{Brings-same, own_brings}
 use Rattle.std.proofs.lemmas.Result.{IfOk-from_err}
 use Rattle.resolver_encoding.proofs.RefusalLemmas.{IfErr-of}
 use Rattle.resolver_encoding.proofs.RefusalLemmas.{IfErr-stop}
@@ -41,108 +37,6 @@ read_demands-requires-clause-encoding g c = let u = g.D.Interner.universe c.args
     demands_by u root (Solvable c.args.solvable) ≡ record { requirements = c.deref-in-Known-2.result.now; constraints = c.deref-in-Known-3.result.now })
     (λ root _. demands_known _ _ answer ∙ sym copied) (notes_in c.args.self.now) c.requires.encoding
 
-pub returns-in_err-fetch_dependencies : goal.returns-in_err-fetch_dependencies
-returns-in_err-fetch_dependencies g c =
-    record {
-      brings = let u = g.D.Interner.universe c.args.provider.now in
-          let s = c.args.solvable in
-          let set = c.args.chosen.now.keys in
-          let old = notes_in c.args.self.now in
-          let needed = demands_of (u.needs s) in
-          let Called = IsDemanded u set needed in
-          let Own : Origin g.row.N.Denot g.row.S.Denot → Type 0 = IsOwn u (Solvable s) needed in
-          Brings-same u Called Own old;
-      room = KeepsRoom-same _ c.requires.bounded;
-      is_true = c.fetch_dependencies.ensures.is_true;
-      step = IfOk-from_err c.from_residual.result _ c.from_residual.ensures.0;
-      read = IfOk-from_err c.from_residual.result _ c.from_residual.ensures.0;
-      refusal = IfErr-stop c.from_residual.result (g.D.DependencyProvider.may_cancel c.args.provider.now) _
-          c.in_err-fetch_dependencies.field-0.0 c.from_residual.ensures.1 c.in_err-fetch_dependencies.ensures.refusal;
-    }
-
-pub returns-in_err-requirements-in-Known : goal.returns-in_err-requirements-in-Known
-returns-in_err-requirements-in-Known g c =
-    record {
-      brings = let u = g.D.Interner.universe c.args.provider.now in
-          let s = c.args.solvable in
-          let set = c.args.chosen.now.keys in
-          let old = notes_in c.args.self.now in
-          let needed = demands_of (u.needs s) in
-          let Called = IsDemanded u set needed in
-          let Own : Origin g.row.N.Denot g.row.S.Denot → Type 0 = IsOwn u (Solvable s) needed in
-          Brings-same u Called Own old;
-      room = KeepsRoom-same _ c.requires.bounded;
-      is_true = c.fetch_dependencies.ensures.is_true;
-      step = IfOk-from_err c.from_residual-in_err-requirements-in-Known.result _ c.from_residual-in_err-requirements-in-Known.ensures.0;
-      read = IfOk-from_err c.from_residual-in_err-requirements-in-Known.result _ c.from_residual-in_err-requirements-in-Known.ensures.0;
-      refusal = IfErr-of c.from_residual-in_err-requirements-in-Known.result _ _ c.from_residual-in_err-requirements-in-Known.ensures.1 tt;
-    }
-
-pub returns-in_err-constraints-in-Known : goal.returns-in_err-constraints-in-Known
-returns-in_err-constraints-in-Known g c =
-    record {
-      brings = let u = g.D.Interner.universe c.args.provider.now in
-          let s = c.args.solvable in
-          let set = c.args.chosen.now.keys in
-          let old = notes_in c.args.self.now in
-          let needed = demands_of (u.needs s) in
-          let Called = IsDemanded u set needed in
-          let Own : Origin g.row.N.Denot g.row.S.Denot → Type 0 = IsOwn u (Solvable s) needed in
-          Brings-same u Called Own old;
-      room = KeepsRoom-same _ c.requires.bounded;
-      is_true = c.fetch_dependencies.ensures.is_true;
-      step = IfOk-from_err c.from_residual-in_err-constraints-in-Known.result _ c.from_residual-in_err-constraints-in-Known.ensures.0;
-      read = IfOk-from_err c.from_residual-in_err-constraints-in-Known.result _ c.from_residual-in_err-constraints-in-Known.ensures.0;
-      refusal = IfErr-of c.from_residual-in_err-constraints-in-Known.result _ _ c.from_residual-in_err-constraints-in-Known.ensures.1 tt;
-    }
-
-pub returns-in_err-forbid_unknown-in-Unknown : goal.returns-in_err-forbid_unknown-in-Unknown
-returns-in_err-forbid_unknown-in-Unknown g c =
-    record {
-      brings = let u = g.D.Interner.universe c.args.provider.now in
-          let s = c.args.solvable in
-          let set = c.args.chosen.now.keys in
-          let old = notes_in c.args.self.now in
-          let needed = demands_of (u.needs s) in
-          let Called = IsDemanded u set needed in
-          let Own : Origin g.row.N.Denot g.row.S.Denot → Type 0 = IsOwn u (Solvable s) needed in
-          own_brings u Called Own (λ o. o ≡ SolvableOrigin s) old (notes_in c.forbid_unknown.new.self) (λ o is. own_itself is) c.forbid_unknown.ensures.adds;
-      room = c.forbid_unknown.ensures.room;
-      is_true = c.fetch_dependencies.ensures.is_true;
-      step = IfOk-from_err c.from_residual-in_err-forbid_unknown-in-Unknown.result _ c.from_residual-in_err-forbid_unknown-in-Unknown.ensures.0;
-      read = IfOk-from_err c.from_residual-in_err-forbid_unknown-in-Unknown.result _ c.from_residual-in_err-forbid_unknown-in-Unknown.ensures.0;
-      refusal = IfErr-of c.from_residual-in_err-forbid_unknown-in-Unknown.result _ _ c.from_residual-in_err-forbid_unknown-in-Unknown.ensures.1
-          c.in_err-forbid_unknown-in-Unknown.ensures.refusal;
-    }
-
-pub returns-in_err-read_demands-in-Known : goal.returns-in_err-read_demands-in-Known
-returns-in_err-read_demands-in-Known g c =
-    record {
-      brings = let u = g.D.Interner.universe c.args.provider.now in
-          let s = c.args.solvable in
-          let set = c.args.chosen.now.keys in
-          let old = notes_in c.args.self.now in
-          let needed = demands_of (u.needs s) in
-          let Called = IsDemanded u set needed in
-          let Own : Origin g.row.N.Denot g.row.S.Denot → Type 0 = IsOwn u (Solvable s) needed in
-          let answer = rw c.in-Known.is at (c.dependencies.ensures u c.fetch_dependencies.ensures.is_true) in
-          let copied_requirements = c.deref-in-Known-2.ensures.value ∙ c.in_ok-requirements-in-Known.ensures.items ∙ c.deref.ensures.value in
-          let copied_constraints = c.deref-in-Known-3.ensures.value ∙ c.in_ok-constraints-in-Known.ensures.items ∙ c.deref-in-Known.ensures.value in
-          let demands : Demands = record { requirements = c.deref-in-Known-2.result.now; constraints = c.deref-in-Known-3.result.now } in
-          let copied : demands ≡ record { requirements = c.in-Known.known.requirements.items; constraints = c.in-Known.known.constrains.items } =
-          λ i. record { requirements = copied_requirements i; constraints = copied_constraints i } in
-          let same : needed ≡ demands = demands_known _ _ answer ∙ sym copied in
-          let new = notes_in c.read_demands.new.self in
-          let Brought : Demands → Type 0 = λ d. Brings u (IsDemanded u set d) (IsOwn u (Solvable s) d) old new in
-          subst Brought (sym same) c.read_demands.ensures.brings;
-      room = c.read_demands.ensures.room;
-      is_true = c.read_demands.ensures.is_true;
-      step = IfOk-from_err c.from_residual-in_err-read_demands-in-Known.result _ c.from_residual-in_err-read_demands-in-Known.ensures.0;
-      read = IfOk-from_err c.from_residual-in_err-read_demands-in-Known.result _ c.from_residual-in_err-read_demands-in-Known.ensures.0;
-      refusal = IfErr-of c.from_residual-in_err-read_demands-in-Known.result _ _ c.from_residual-in_err-read_demands-in-Known.ensures.1
-          c.in_err-read_demands-in-Known.ensures.refusal;
-    }
-
 pub returns-in_ok-forbid_unknown-in-Unknown : goal.returns-in_ok-forbid_unknown-in-Unknown
 returns-in_ok-forbid_unknown-in-Unknown g c =
     record {
@@ -151,14 +45,6 @@ returns-in_ok-forbid_unknown-in-Unknown g c =
           let Demanded = IsDemanded u set (demands_of (u.needs c.args.solvable)) in
           IsReadStep-of u (IsUnmet u set (Solvable c.args.solvable)) Demanded (λ root. ⊤) _ _
           (IsAskStep-of u Demanded (λ root. ⊤) _ _ c.in_ok-forbid_unknown-in-Unknown.ensures.step);
-      brings = let u = g.D.Interner.universe c.args.provider.now in
-          let s = c.args.solvable in
-          let set = c.args.chosen.now.keys in
-          let old = notes_in c.args.self.now in
-          let needed = demands_of (u.needs s) in
-          let Called = IsDemanded u set needed in
-          let Own : Origin g.row.N.Denot g.row.S.Denot → Type 0 = IsOwn u (Solvable s) needed in
-          own_brings u Called Own (λ o. o ≡ SolvableOrigin s) old (notes_in c.forbid_unknown.new.self) (λ o is. own_itself is) c.forbid_unknown.ensures.adds;
       is_true = c.fetch_dependencies.ensures.is_true;
       room = c.forbid_unknown.ensures.room;
       refusal = tt;
@@ -185,23 +71,6 @@ returns-in_ok-read_demands-in-Known g c =
           (λ n h.
           subst (Demanded n) (sym same) h)
           (λ root. demands_by u root (Solvable c.args.solvable) ≡ demands) (λ root. ⊤) (λ root _. same) _ _ c.in_ok-read_demands-in-Known.ensures.step;
-      brings = let u = g.D.Interner.universe c.args.provider.now in
-          let s = c.args.solvable in
-          let set = c.args.chosen.now.keys in
-          let old = notes_in c.args.self.now in
-          let needed = demands_of (u.needs s) in
-          let Called = IsDemanded u set needed in
-          let Own : Origin g.row.N.Denot g.row.S.Denot → Type 0 = IsOwn u (Solvable s) needed in
-          let answer = rw c.in-Known.is at (c.dependencies.ensures u c.fetch_dependencies.ensures.is_true) in
-          let copied_requirements = c.deref-in-Known-2.ensures.value ∙ c.in_ok-requirements-in-Known.ensures.items ∙ c.deref.ensures.value in
-          let copied_constraints = c.deref-in-Known-3.ensures.value ∙ c.in_ok-constraints-in-Known.ensures.items ∙ c.deref-in-Known.ensures.value in
-          let demands : Demands = record { requirements = c.deref-in-Known-2.result.now; constraints = c.deref-in-Known-3.result.now } in
-          let copied : demands ≡ record { requirements = c.in-Known.known.requirements.items; constraints = c.in-Known.known.constrains.items } =
-          λ i. record { requirements = copied_requirements i; constraints = copied_constraints i } in
-          let same : needed ≡ demands = demands_known _ _ answer ∙ sym copied in
-          let new = notes_in c.read_demands.new.self in
-          let Brought : Demands → Type 0 = λ d. Brings u (IsDemanded u set d) (IsOwn u (Solvable s) d) old new in
-          subst Brought (sym same) c.read_demands.ensures.brings;
       is_true = c.read_demands.ensures.is_true;
       room = c.read_demands.ensures.room;
       refusal = tt;

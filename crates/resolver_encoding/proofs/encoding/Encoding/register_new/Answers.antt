@@ -7,7 +7,6 @@ use Rattle.resolver_clause_store.specs.Variables.{limit_in, origins_in}
 use Rattle.resolver_encoding.specs.Called.{IsSeeing}
 use Rattle.resolver_encoding.specs.Encodings.{Grows, coding_for, idle}
 use Rattle.resolver_encoding.specs.Groups.{AreGroups}
-use Rattle.resolver_encoding.specs.Led.{NoneOwn, brought_candidate}
 use Rattle.resolver_encoding.specs.declared.groups.Groups.{Groups}
 use Rattle.resolver_encoding.specs.Notes.{notes_in}
 use Rattle.resolver_encoding.proofs.EncodingLemmas.{IsAskStep-of, IsAskStep-trans, IsStep-trans}
@@ -15,8 +14,6 @@ use Rattle.resolver_encoding.proofs.NoteLemmas.{IsStep-origins}
 use Rattle.resolver_encoding.proofs.SeeLemmas.{IsStep-seen}
 use Rattle.resolver_encoding.proofs.SoFarLemmas.{IsWithin-equal}
 use Rattle.resolver_clause_store.proofs.ListLemmas.{Contains-at as place_in}
-use Rattle.resolver_encoding.proofs.LedLemmas.{AddsOnly-same_as, AddsOnly-such, AddsOnly-then-such, AddsOnly-trans, AddsOnly-weaker, AddsSuch-push}
-use Rattle.resolver_encoding.proofs.LedLemmas.{AddsSuch-weaker, Brings-of, own_code, see_brings}
 use Rattle.std.proofs.lemmas.Result.{IfOk-from_err}
 use Rattle.resolver_encoding.proofs.RefusalLemmas.{IfErr-of}
 use Rattle.resolver_encoding.proofs.RefusalLemmas.{shortage_at_limit}
@@ -25,100 +22,6 @@ use Rattle.resolver_encoding.proofs.encoding.Encoding.register_new.Goals as goal
 
 pub begin_digit-requires-clause-below : goal.begin_digit-requires-clause-below
 begin_digit-requires-clause-below g c = λ sound k t at. slice_get_within c.named-number.result.now k t (c.named-number.ensures.every_at sound k t at)
-
-pub returns-in_err-intern_near : goal.returns-in_err-intern_near
-returns-in_err-intern_near g c =
-    record {
-      brings = λ root before. Brings-of (g.D.Interner.universe c.args.provider.now) (IsSeeing c.args.solvable) NoneOwn (λ o. o ≡ Solvable c.args.solvable)
-          (notes_in c.args.self.now) _ (λ o is. inr (brought_candidate c.args.solvable refl is))
-          (AddsOnly-such _ _ _ (AddsSuch-push _ _ _ c.intern_near.ensures.added) refl);
-      room = record { bounded = c.intern_near.ensures.bounded; variables = c.intern_near.ensures.limit; clauses = refl };
-      step = IfOk-from_err c.from_residual.result _ c.from_residual.ensures.0;
-      seen = IfOk-from_err c.from_residual.result _ c.from_residual.ensures.0;
-      asked = IfOk-from_err c.from_residual.result _ c.from_residual.ensures.0;
-      only = IfOk-from_err c.from_residual.result _ c.from_residual.ensures.0;
-      requirements = IfOk-from_err c.from_residual.result _ c.from_residual.ensures.0;
-      refusal = IfErr-of c.from_residual.result _ _ c.from_residual.ensures.1
-          (shortage_at_limit _ _ (λ ids. let full = c.in_err-intern_near.ensures.ids ids in inl (full.count, full.distinct)));
-    }
-
-pub returns-in_err-begin_digit : goal.returns-in_err-begin_digit
-returns-in_err-begin_digit g c =
-    record {
-      brings = λ root before. (see_brings (g.D.Interner.universe c.args.provider.now) root
-          (notes_in c.args.self.now) before c.solvable_name-name.result c.named-number.result.now c.named-number.ensures.each_at
-          (length c.named-number.result.now) c.args.solvable _ c.named-number.ensures.each refl
-          (AddsOnly-then-such _ _ _ _ (AddsSuch-weaker _ _ (λ o is. own_code _ _ _ _ o (inl is)) _ _
-          (AddsSuch-push _ _ _ c.intern_near.ensures.added)) c.begin_digit.ensures.adds.origins c.begin_digit.ensures.adds.deferred));
-      room = (let it = c.begin_digit.ensures.room in record { bounded = it.bounded; variables = it.variables ∙ c.intern_near.ensures.limit; clauses = it.clauses });
-      step = IfOk-from_err c.from_residual-in_err-begin_digit.result _ c.from_residual-in_err-begin_digit.ensures.0;
-      seen = IfOk-from_err c.from_residual-in_err-begin_digit.result _ c.from_residual-in_err-begin_digit.ensures.0;
-      asked = IfOk-from_err c.from_residual-in_err-begin_digit.result _ c.from_residual-in_err-begin_digit.ensures.0;
-      only = IfOk-from_err c.from_residual-in_err-begin_digit.result _ c.from_residual-in_err-begin_digit.ensures.0;
-      requirements = IfOk-from_err c.from_residual-in_err-begin_digit.result _ c.from_residual-in_err-begin_digit.ensures.0;
-      refusal = IfErr-of c.from_residual-in_err-begin_digit.result _ _ c.from_residual-in_err-begin_digit.ensures.1 c.in_err-begin_digit.ensures.refusal;
-    }
-
-pub returns-in_err-add_code : goal.returns-in_err-add_code
-returns-in_err-add_code g c =
-    record {
-      brings = λ root before. (see_brings (g.D.Interner.universe c.args.provider.now) root
-          (notes_in c.args.self.now) before c.solvable_name-name.result c.named-number.result.now c.named-number.ensures.each_at
-          (length c.named-number.result.now) c.args.solvable _ c.named-number.ensures.each refl
-          (AddsOnly-trans _ _ _ _ (AddsOnly-then-such _ _ _ _
-          (AddsSuch-weaker _ _ (λ o is. own_code _ _ _ _ o (inl is)) _ _
-          (AddsSuch-push _ _ _ c.intern_near.ensures.added)) c.begin_digit.ensures.adds.origins c.begin_digit.ensures.adds.deferred)
-          (AddsOnly-weaker _ _ (own_code _ _ _ _) _ _ c.add_code.ensures.adds)));
-      room = (let one = c.begin_digit.ensures.room in let two = c.add_code.ensures.room in
-          record { bounded = two.bounded; variables = two.variables ∙ one.variables ∙ c.intern_near.ensures.limit; clauses = two.clauses ∙ one.clauses });
-      step = IfOk-from_err c.from_residual-in_err-add_code.result _ c.from_residual-in_err-add_code.ensures.0;
-      seen = IfOk-from_err c.from_residual-in_err-add_code.result _ c.from_residual-in_err-add_code.ensures.0;
-      asked = IfOk-from_err c.from_residual-in_err-add_code.result _ c.from_residual-in_err-add_code.ensures.0;
-      only = IfOk-from_err c.from_residual-in_err-add_code.result _ c.from_residual-in_err-add_code.ensures.0;
-      requirements = IfOk-from_err c.from_residual-in_err-add_code.result _ c.from_residual-in_err-add_code.ensures.0;
-      refusal = IfErr-of c.from_residual-in_err-add_code.result _ _ c.from_residual-in_err-add_code.ensures.1 c.in_err-add_code.ensures.refusal;
-    }
-
-pub returns-in_err-add : goal.returns-in_err-add
-returns-in_err-add g c =
-    record {
-      brings = λ root before. (see_brings (g.D.Interner.universe c.args.provider.now) root
-          (notes_in c.args.self.now) before c.solvable_name-name.result c.named-number.result.now c.named-number.ensures.each_at
-          (length c.named-number.result.now) c.args.solvable _ c.named-number.ensures.each refl
-          (AddsOnly-same_as _ _ _ _ (AddsOnly-trans _ _ _ _
-          (AddsOnly-then-such _ _ _ _ (AddsSuch-weaker _ _ (λ o is. own_code _ _ _ _ o (inl is)) _ _
-          (AddsSuch-push _ _ _ c.intern_near.ensures.added)) c.begin_digit.ensures.adds.origins c.begin_digit.ensures.adds.deferred)
-          (AddsOnly-weaker _ _ (own_code _ _ _ _) _ _ c.add_code.ensures.adds)) refl refl));
-      room = (let one = c.begin_digit.ensures.room in let two = c.add_code.ensures.room in
-          record { bounded = two.bounded; variables = two.variables ∙ one.variables ∙ c.intern_near.ensures.limit; clauses = two.clauses ∙ one.clauses });
-      step = IfOk-from_err c.from_residual-in_err-add.result _ c.from_residual-in_err-add.ensures.0;
-      seen = IfOk-from_err c.from_residual-in_err-add.result _ c.from_residual-in_err-add.ensures.0;
-      asked = IfOk-from_err c.from_residual-in_err-add.result _ c.from_residual-in_err-add.ensures.0;
-      only = IfOk-from_err c.from_residual-in_err-add.result _ c.from_residual-in_err-add.ensures.0;
-      requirements = IfOk-from_err c.from_residual-in_err-add.result _ c.from_residual-in_err-add.ensures.0;
-      refusal = IfErr-of c.from_residual-in_err-add.result _ _ c.from_residual-in_err-add.ensures.1 (shortage_of_memory _ _ c.in_err-add.ensures.memory);
-    }
-
-pub returns-in_err-append : goal.returns-in_err-append
-returns-in_err-append g c =
-    record {
-      brings = λ root before. (see_brings (g.D.Interner.universe c.args.provider.now) root
-          (notes_in c.args.self.now) before c.solvable_name-name.result c.named-number.result.now c.named-number.ensures.each_at
-          (length c.named-number.result.now) c.args.solvable _ c.named-number.ensures.each refl
-          (AddsOnly-same_as _ _ _ _ (AddsOnly-trans _ _ _ _
-          (AddsOnly-then-such _ _ _ _ (AddsSuch-weaker _ _ (λ o is. own_code _ _ _ _ o (inl is)) _ _
-          (AddsSuch-push _ _ _ c.intern_near.ensures.added)) c.begin_digit.ensures.adds.origins c.begin_digit.ensures.adds.deferred)
-          (AddsOnly-weaker _ _ (own_code _ _ _ _) _ _ c.add_code.ensures.adds)) refl refl));
-      room = (let one = c.begin_digit.ensures.room in let two = c.add_code.ensures.room in
-          record { bounded = two.bounded; variables = two.variables ∙ one.variables ∙ c.intern_near.ensures.limit; clauses = two.clauses ∙ one.clauses });
-      step = IfOk-from_err c.from_residual-in_err-append.result _ c.from_residual-in_err-append.ensures.0;
-      seen = IfOk-from_err c.from_residual-in_err-append.result _ c.from_residual-in_err-append.ensures.0;
-      asked = IfOk-from_err c.from_residual-in_err-append.result _ c.from_residual-in_err-append.ensures.0;
-      only = IfOk-from_err c.from_residual-in_err-append.result _ c.from_residual-in_err-append.ensures.0;
-      requirements = IfOk-from_err c.from_residual-in_err-append.result _ c.from_residual-in_err-append.ensures.0;
-      refusal = IfErr-of c.from_residual-in_err-append.result _ _ c.from_residual-in_err-append.ensures.1
-          (shortage_of_memory _ _ c.in_err-append.ensures.memory);
-    }
 
 pub returns : goal.returns
 returns g c =
@@ -158,14 +61,6 @@ returns g c =
           (λ (last : c.args.solvable ≡ t). inr (sym last))
           (Contains-push_cases mid.seen c.args.solvable t
           (IsWithin-equal c.append.new.set.keys (mid.seen ++ c.args.solvable ∷ []) (sym c.in_ok-append.ensures.keys) t h));
-      brings = λ root before.
-          (see_brings (g.D.Interner.universe c.args.provider.now) root
-          (notes_in c.args.self.now) before c.solvable_name-name.result c.named-number.result.now c.named-number.ensures.each_at
-          (length c.named-number.result.now) c.args.solvable _ c.named-number.ensures.each refl
-          (AddsOnly-same_as _ _ _ _ (AddsOnly-trans _ _ _ _
-          (AddsOnly-then-such _ _ _ _ (AddsSuch-weaker _ _ (λ o is. own_code _ _ _ _ o (inl is)) _ _
-          (AddsSuch-push _ _ _ c.intern_near.ensures.added)) c.begin_digit.ensures.adds.origins c.begin_digit.ensures.adds.deferred)
-          (AddsOnly-weaker _ _ (own_code _ _ _ _) _ _ c.add_code.ensures.adds)) refl refl));
       room = (let one = c.begin_digit.ensures.room in let two = c.add_code.ensures.room in
           record { bounded = two.bounded; variables = two.variables ∙ one.variables ∙ c.intern_near.ensures.limit; clauses = two.clauses ∙ one.clauses });
       requirements = c.in_ok-add_code.ensures.requirements ∙ c.in_ok-begin_digit.ensures.requirements;

@@ -1,23 +1,16 @@
 use Rattle.std.proofs.Common.{◌∙◌, ap, sym, subst, Contains, List}
 use Rattle.std.specs.Prelude.{⊤}
-use Rattle.resolver_encoding.specs.Encodings.{IsFollowed, owing_for}
+use Rattle.resolver_encoding.specs.Encodings.{owing_for}
 use Rattle.resolver_encoding.specs.Notes.{notes_in}
 use Rattle.resolver_encoding.proofs.EncodingLemmas.{IsStep-trans}
 use Rattle.resolver_encoding.proofs.TurnLemmas.{AddsPlainly-trans, IsRestored-found, IsRestored-unasked}
-use Rattle.resolver_clause_store.specs.declared.Origin.{Origin}
-use Rattle.resolver_encoding.specs.Called.{IsAsking}
-use Rattle.resolver_encoding.specs.Led.{IsBarred}
-use Rattle.resolver_encoding.proofs.LedLemmas.{AddsOnly-trans, AddsOnly-weaker, IsBarred-weaker}
-use Rattle.resolver_encoding.proofs.LedReading.{asked_followed}
 use Rattle.std.proofs.lemmas.Result.{IfOk-from_err}
 use Rattle.resolver_encoding.proofs.RefusalLemmas.{IfErr-of}
 use Rattle.resolver_encoding.proofs.RefusalLemmas.{IfErr-stop}
 use Rattle.resolver_encoding.proofs.RoomLemmas.{KeepsRoom-same}
 use Rattle.resolver_encoding.proofs.RoomLemmas.{KeepsRoom-trans}
 use Rattle.resolver_encoding.proofs.EncodingLemmas.{IsStep-same}
-use Rattle.resolver_encoding.proofs.LedLemmas.{AddsOnly-equal}
 use Rattle.resolver_encoding.proofs.TurnLemmas.{AddsPlainly-same}
-use Rattle.std.proofs.Common.{refl}
 use Rattle.resolver_encoding.proofs.encoding.Encoding.restore.Goals as goal
 
 pub restore_exclusions-requires-clause-asked : goal.restore_exclusions-requires-clause-asked
@@ -34,59 +27,7 @@ returns-then-not-is_among g c =
       is_true = c.requires.is_true;
       step = IsStep-same (g.D.Interner.universe c.args.provider.now) (owing_for c.args.solvable) (λ root. ⊤) (notes_in c.args.self.now);
       plain = AddsPlainly-same (g.D.Interner.universe c.args.provider.now) (notes_in c.args.self.now);
-      adds = AddsOnly-equal _ _ _ refl refl;
       refusal = tt;
-    }
-
-pub returns-in_err-fetch_candidates : goal.returns-in_err-fetch_candidates
-returns-in_err-fetch_candidates g c =
-    record {
-      room = KeepsRoom-same _ c.requires.bounded;
-      is_true = c.fetch_candidates.ensures.is_true;
-      step = IfOk-from_err c.from_residual.result _ c.from_residual.ensures.0;
-      plain = IfOk-from_err c.from_residual.result _ c.from_residual.ensures.0;
-      restored = IfOk-from_err c.from_residual.result _ c.from_residual.ensures.0;
-      adds = AddsOnly-equal _ _ _ refl refl;
-      refusal = IfErr-stop c.from_residual.result (g.D.DependencyProvider.may_cancel c.args.provider.now) _
-          c.in_err-fetch_candidates.field-0.0 c.from_residual.ensures.1 c.in_err-fetch_candidates.ensures.refusal;
-    }
-
-pub returns-in_err-restore_lock : goal.returns-in_err-restore_lock
-returns-in_err-restore_lock g c =
-    record {
-      adds = let u = g.D.Interner.universe c.args.provider.now in
-          let old = notes_in c.args.self.now in
-          let n = c.solvable_name-name.result in
-          let followed : (o : Origin g.row.N.Denot g.row.S.Denot) → IsBarred u (IsAsking n) o → IsBarred u (IsFollowed old) o =
-          IsBarred-weaker u (IsAsking n) (IsFollowed old) (asked_followed u old n c.if-not-is_among.ensures) in
-          AddsOnly-weaker (IsBarred u (IsAsking n)) (IsBarred u (IsFollowed old)) followed old (notes_in c.restore_lock.new.self) c.restore_lock.ensures.adds;
-      room = c.restore_lock.ensures.room;
-      is_true = c.fetch_candidates.ensures.is_true;
-      step = IfOk-from_err c.from_residual-in_err-restore_lock.result _ c.from_residual-in_err-restore_lock.ensures.0;
-      plain = IfOk-from_err c.from_residual-in_err-restore_lock.result _ c.from_residual-in_err-restore_lock.ensures.0;
-      restored = IfOk-from_err c.from_residual-in_err-restore_lock.result _ c.from_residual-in_err-restore_lock.ensures.0;
-      refusal = IfErr-of c.from_residual-in_err-restore_lock.result _ _ c.from_residual-in_err-restore_lock.ensures.1 c.in_err-restore_lock.ensures.refusal;
-    }
-
-pub returns-in_err-restore_exclusions : goal.returns-in_err-restore_exclusions
-returns-in_err-restore_exclusions g c =
-    record {
-      adds = let u = g.D.Interner.universe c.args.provider.now in
-          let old = notes_in c.args.self.now in
-          let n = c.solvable_name-name.result in
-          let followed : (o : Origin g.row.N.Denot g.row.S.Denot) → IsBarred u (IsAsking n) o → IsBarred u (IsFollowed old) o =
-          IsBarred-weaker u (IsAsking n) (IsFollowed old) (asked_followed u old n c.if-not-is_among.ensures) in
-          let mid = notes_in c.restore_lock.new.self in
-          let new = notes_in c.restore_exclusions.new.self in
-          AddsOnly-weaker (IsBarred u (IsAsking n)) (IsBarred u (IsFollowed old)) followed old new
-          (AddsOnly-trans (IsBarred u (IsAsking n)) old mid new c.restore_lock.ensures.adds c.restore_exclusions.ensures.adds);
-      room = KeepsRoom-trans _ _ _ c.restore_lock.ensures.room c.restore_exclusions.ensures.room;
-      is_true = c.fetch_candidates.ensures.is_true;
-      step = IfOk-from_err c.from_residual-in_err-restore_exclusions.result _ c.from_residual-in_err-restore_exclusions.ensures.0;
-      plain = IfOk-from_err c.from_residual-in_err-restore_exclusions.result _ c.from_residual-in_err-restore_exclusions.ensures.0;
-      restored = IfOk-from_err c.from_residual-in_err-restore_exclusions.result _ c.from_residual-in_err-restore_exclusions.ensures.0;
-      refusal = IfErr-of c.from_residual-in_err-restore_exclusions.result _ _ c.from_residual-in_err-restore_exclusions.ensures.1
-          c.in_err-restore_exclusions.ensures.refusal;
     }
 
 pub returns : goal.returns
@@ -103,15 +44,6 @@ returns g c =
           c.in_ok-restore_exclusions.ensures.step.kinds c.in_ok-restore_lock.ensures.step.exempt c.in_ok-restore_exclusions.ensures.step.exempt _ _ _
           (c.deref.ensures.value ∙ ap (λ p. p.listed) answer) (ap (λ p. p.locked) answer) (c.deref-2.ensures.value ∙ ap (λ p. p.excluded) answer)
           c.in_ok-restore_lock.ensures.restored c.in_ok-restore_exclusions.ensures.restored;
-      adds = let u = g.D.Interner.universe c.args.provider.now in
-          let old = notes_in c.args.self.now in
-          let n = c.solvable_name-name.result in
-          let followed : (o : Origin g.row.N.Denot g.row.S.Denot) → IsBarred u (IsAsking n) o → IsBarred u (IsFollowed old) o =
-          IsBarred-weaker u (IsAsking n) (IsFollowed old) (asked_followed u old n c.if-not-is_among.ensures) in
-          let mid = notes_in c.restore_lock.new.self in
-          let new = notes_in c.restore_exclusions.new.self in
-          AddsOnly-weaker (IsBarred u (IsAsking n)) (IsBarred u (IsFollowed old)) followed old new
-          (AddsOnly-trans (IsBarred u (IsAsking n)) old mid new c.restore_lock.ensures.adds c.restore_exclusions.ensures.adds);
       room = KeepsRoom-trans _ _ _ c.restore_lock.ensures.room c.restore_exclusions.ensures.room;
       is_true = c.fetch_candidates.ensures.is_true;
       refusal = tt;

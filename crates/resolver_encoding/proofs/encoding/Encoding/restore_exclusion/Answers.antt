@@ -3,9 +3,3 @@ use Rattle.resolver_encoding.proofs.encoding.Encoding.restore_exclusion.Goals as
 
 pub returns-clause-step : goal.returns-clause-step
 returns-clause-step g c = c.in_ok-exclude.ensures.step (owing_for c.args.solvable) c.requires.asked
-
-pub returns-in_err-exclude-clause-adds : goal.returns-in_err-exclude-clause-adds
-returns-in_err-exclude-clause-adds g c = c.exclude.ensures.adds
-
-pub returns-clause-adds : goal.returns-clause-adds
-returns-clause-adds g c = c.exclude.ensures.adds

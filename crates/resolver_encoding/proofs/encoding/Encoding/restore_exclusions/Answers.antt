@@ -1,4 +1,4 @@
-use Rattle.std.proofs.Common.{◌≡◌, sym, subst, arith, Contains, List, refl}
+use Rattle.std.proofs.Common.{◌≡◌, sym, subst, arith, Contains, List}
 use Rattle.std.specs.Prelude.{⊤}
 use Rattle.std.proofs.lemmas.List.Elements.{All-contains, All-nil}
 use Rattle.resolver_clause_store.specs.declared.ClauseKind.TheVariants.{Excluded}
@@ -8,13 +8,11 @@ use Rattle.resolver_clause_store.proofs.SetLemmas.{All-done, Contains-item}
 use Rattle.resolver_encoding.proofs.EncodingLemmas.{IsStep-same, IsStep-trans}
 use Rattle.resolver_encoding.proofs.NoteLemmas.{All-grown}
 use Rattle.resolver_encoding.proofs.TurnLemmas.{AddsPlainly-same, AddsPlainly-trans}
-use Rattle.resolver_encoding.proofs.LedLemmas.{AddsOnly-equal, AddsOnly-trans}
 use Rattle.resolver_encoding.proofs.RoomLemmas.{KeepsRoom-same, KeepsRoom-trans}
 use Rattle.resolver_encoding.proofs.encoding.Encoding.restore_exclusions.Goals as goal
 
 pub loop-other-init : goal.loop-other-init
 loop-other-init g c = record {
-  adds = AddsOnly-equal _ _ _ refl refl;
   room = KeepsRoom-same _ c.requires.bounded;
   step = IsStep-same (g.D.Interner.universe c.args.provider.now) (owing_for c.args.solvable) (λ root. ⊤) (notes_in c.args.self.now);
   plain = AddsPlainly-same (g.D.Interner.universe c.args.provider.now) (notes_in c.args.self.now);
@@ -50,7 +48,6 @@ loop-other-preserved g c =
     let Free : List _ → Type 0 = λ list. c.loop-other-item.result.0 ≡ s → (Contains list s → ⊥) →
     Contains (notes_in c.restore_exclusion.new.self).kinds (Excluded c.loop-other-item.result.0 c.loop-other-item.result.1) in
     record {
-      adds = AddsOnly-trans _ _ _ _ before.adds c.restore_exclusion.ensures.adds;
       room = KeepsRoom-trans _ _ _ before.room c.restore_exclusion.ensures.room;
       step = IsStep-trans u (owing_for s) (λ root. ⊤) _ _ _ before.step step;
       plain = AddsPlainly-trans u _ _ _ before.plain c.in_ok-restore_exclusion.ensures.plain;
@@ -69,6 +66,3 @@ returns-clause-restored g c = All-done (λ e.
 
 pub restore_exclusion-requires-clause-bounded : goal.restore_exclusion-requires-clause-bounded
 restore_exclusion-requires-clause-bounded g c = c.loop-other.invariant.room.bounded
-
-pub returns-in_err-restore_exclusion-clause-adds : goal.returns-in_err-restore_exclusion-clause-adds
-returns-in_err-restore_exclusion-clause-adds g c = AddsOnly-trans _ _ _ _ c.loop-other.invariant.adds c.restore_exclusion.ensures.adds

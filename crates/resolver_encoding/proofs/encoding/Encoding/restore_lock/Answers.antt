@@ -3,9 +3,3 @@ use Rattle.resolver_encoding.proofs.encoding.Encoding.restore_lock.Goals as goal
 
 pub returns-clause-step : goal.returns-clause-step
 returns-clause-step g c = c.in_ok-lock_out.ensures.step (owing_for c.args.solvable) c.requires.asked
-
-pub returns-in_err-lock_out-clause-adds : goal.returns-in_err-lock_out-clause-adds
-returns-in_err-lock_out-clause-adds g c = c.lock_out.ensures.adds
-
-pub returns-clause-adds : goal.returns-clause-adds
-returns-clause-adds g c = c.lock_out.ensures.adds

@@ -3,10 +3,8 @@ use Rattle.std.specs.Prelude.{⊤}
 use Rattle.std.proofs.lemmas.Result.{IfOk-from_err}
 use Rattle.resolver_clause_store.proofs.ListLemmas.{Contains-at as place_in}
 use Rattle.resolver_encoding.specs.Called.{IsSeeing}
-use Rattle.resolver_encoding.specs.Led.{NoneOwn}
 use Rattle.resolver_encoding.specs.Notes.{notes_in}
 use Rattle.resolver_encoding.proofs.EncodingLemmas.{IsAskStep-same}
-use Rattle.resolver_encoding.proofs.LedLemmas.{Brings-same}
 use Rattle.resolver_encoding.proofs.RefusalLemmas.{IfErr-of}
 use Rattle.resolver_encoding.proofs.RoomLemmas.{KeepsRoom-same}
 use Rattle.resolver_encoding.proofs.encoding.Encoding.see.Goals as goal
@@ -25,7 +23,6 @@ returns-in-Some g c =
       asked = refl;
       only = λ t h. inl h;
       requirements = refl;
-      brings = λ root before. Brings-same u (IsSeeing c.args.solvable) NoneOwn old;
       refusal = tt;
     }
 
@@ -38,19 +35,5 @@ returns-in_ok-register_new-in-None g c =
       asked = c.in_ok-register_new-in-None.ensures.asked;
       only = c.in_ok-register_new-in-None.ensures.only;
       requirements = c.in_ok-register_new-in-None.ensures.requirements;
-      brings = c.register_new.ensures.brings;
       refusal = tt;
-    }
-
-pub returns-in_err-register_new-in-None : goal.returns-in_err-register_new-in-None
-returns-in_err-register_new-in-None g c =
-    record {
-      room = c.register_new.ensures.room;
-      step = IfOk-from_err c.from_residual.result _ c.from_residual.ensures.0;
-      seen = IfOk-from_err c.from_residual.result _ c.from_residual.ensures.0;
-      asked = IfOk-from_err c.from_residual.result _ c.from_residual.ensures.0;
-      only = IfOk-from_err c.from_residual.result _ c.from_residual.ensures.0;
-      requirements = IfOk-from_err c.from_residual.result _ c.from_residual.ensures.0;
-      brings = c.register_new.ensures.brings;
-      refusal = IfErr-of c.from_residual.result _ _ c.from_residual.ensures.1 c.in_err-register_new-in-None.ensures.refusal;
     }

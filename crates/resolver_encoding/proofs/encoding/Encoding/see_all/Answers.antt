@@ -1,21 +1,17 @@
 use Rattle.std.proofs.Common.{arith, refl, Contains}
 use Rattle.std.specs.Prelude.{⊤}
 use Rattle.std.proofs.lemmas.List.Elements.{All-nil}
-use Rattle.resolver_encoding.specs.Called.{IsSeeing, IsSeeingEach, to_see}
+use Rattle.resolver_encoding.specs.Called.{IsSeeing, IsSeeingEach}
 use Rattle.resolver_encoding.specs.Notes.{notes_in}
 use Rattle.resolver_clause_store.proofs.SetLemmas.{All-done}
 use Rattle.resolver_encoding.proofs.EncodingLemmas.{Extends-within, IsAskStep-trans, IsAskStep-weaker}
 use Rattle.resolver_encoding.proofs.NoteLemmas.{All-grown, seen_here}
-use Rattle.resolver_encoding.proofs.LedLemmas.{Brings-trans, Brings-weaker}
-use Rattle.resolver_encoding.specs.Led.{NoneOwn}
 use Rattle.resolver_encoding.proofs.RoomLemmas.{KeepsRoom-trans}
-use Rattle.resolver_encoding.proofs.VariableLemmas.{made_brings, made_step}
+use Rattle.resolver_encoding.proofs.VariableLemmas.{made_step}
 use Rattle.resolver_encoding.proofs.encoding.Encoding.see_all.Goals as goal
 
 pub loop-candidate-init : goal.loop-candidate-init
 loop-candidate-init g c = record {
-  brings = λ root before. made_brings (g.D.Interner.universe c.args.provider.now) c.args.candidates.now (notes_in c.args.self.now) _
-      c.make_variables.ensures.adds refl;
   room = record { bounded = c.make_variables.ensures.bounded; variables = c.make_variables.ensures.limit; clauses = refl };
   step = made_step (g.D.Interner.universe c.args.provider.now) c.args.candidates.now (notes_in c.args.self.now) _ _ _ c.make_variables.ensures.grows
       c.make_variables.ensures.limit refl;
@@ -27,11 +23,6 @@ loop-candidate-preserved g c =
     let u = g.D.Interner.universe c.args.provider.now in
     let before = c.loop-candidate.invariant in
     record {
-      brings = λ root before. Brings-trans (g.D.Interner.universe c.args.provider.now) (IsSeeingEach c.args.candidates.now) NoneOwn _ _ _ (λ s h.
-          c.loop-candidate.invariant.step.called (to_see s) h) (c.loop-candidate.invariant.brings root before)
-          (Brings-weaker (g.D.Interner.universe c.args.provider.now) (IsSeeing c.candidate-item.result) (IsSeeingEach c.args.candidates.now)
-          (seen_here c.args.candidates.now c.loop-candidate.candidate-index c.candidate-item.result (omega arith) c.candidate-item.is) NoneOwn NoneOwn (λ o h.
-          h) _ _ (c.see.ensures.brings root (c.loop-candidate.invariant.step.keeps root tt before)));
       room = KeepsRoom-trans _ _ _ before.room c.see.ensures.room;
       step = IsAskStep-trans u (IsSeeingEach c.args.candidates.now) (λ root. ⊤) _ _ _ before.step
           (IsAskStep-weaker u (IsSeeing c.candidate-item.result) (IsSeeingEach c.args.candidates.now)
@@ -45,15 +36,3 @@ loop-candidate-preserved g c =
 pub returns-clause-seen : goal.returns-clause-seen
 returns-clause-seen g c = All-done (Contains c.loop-candidate.self.seen.keys) c.args.candidates.now c.loop-candidate.candidate-index
     (omega arith) c.loop-candidate.invariant.seen
-
-pub returns-in_err-next-clause-brings : goal.returns-in_err-next-clause-brings
-returns-in_err-next-clause-brings g c =
-    λ root before. Brings-trans (g.D.Interner.universe c.args.provider.now) (IsSeeingEach c.args.candidates.now) NoneOwn _ _ _ (λ s h.
-    c.loop-candidate.invariant.step.called (to_see s) h) (c.loop-candidate.invariant.brings root before)
-    (Brings-weaker (g.D.Interner.universe c.args.provider.now) (IsSeeing c.candidate-item.result) (IsSeeingEach c.args.candidates.now)
-    (seen_here c.args.candidates.now c.loop-candidate.candidate-index c.candidate-item.result (omega arith) c.candidate-item.is) NoneOwn NoneOwn (λ o h. h) _ _
-    (c.see.ensures.brings root (c.loop-candidate.invariant.step.keeps root tt before)))
-
-pub returns-in_err-make_variables-clause-brings : goal.returns-in_err-make_variables-clause-brings
-returns-in_err-make_variables-clause-brings g c =
-    λ root before. made_brings (g.D.Interner.universe c.args.provider.now) c.args.candidates.now (notes_in c.args.self.now) _ c.make_variables.ensures.adds refl

@@ -1,8 +1,6 @@
-use Rattle.std.proofs.Common.{◌≡◌, Contains}
+use Rattle.std.proofs.Common.{◌≡◌}
 use Rattle.resolver_clause_store.specs.Variables.{IsBounded, limit_in, origins_in}
-use Rattle.resolver_clause_store.specs.declared.Origin.TheVariants.{Solvable}
 use Rattle.resolver_encoding.specs.Encodings.{Grows}
-use Rattle.resolver_encoding.specs.Led.{AddsSuch}
 use Rattle.resolver_encoding.proofs.encoding.candidates.make_variables.Given as goal
 
 abbrev pub invariant-loop-candidate : goal.invariant-loop-candidate
@@ -10,5 +8,4 @@ invariant-loop-candidate g l = record {
   bounded : IsBounded l.variables;
   limit : limit_in l.variables ≡ limit_in l.fn.variables;
   grows : Grows (origins_in l.fn.variables) (origins_in l.variables);
-  adds : AddsSuch (λ o. (s : g.row.S.Denot) × Contains l.candidates s × (o ≡ Solvable s)) (origins_in l.fn.variables) (origins_in l.variables);
 }

@@ -7,7 +7,7 @@ use Rattle.resolver_clause_store.specs.declared.VersionSetId.{VersionSetId}
 use Rattle.resolver_encoding.specs.Atoms.{atom, front}
 use Rattle.resolver_encoding.specs.Encodings.{Adds}
 use Rattle.resolver_encoding.proofs.ClauseLemmas.{Adds-trans, Adds-zip, Grows-trans}
-use Rattle.resolver_encoding.proofs.TableLemmas.{candidates_add, clause_made, front_adds, helpers_add}
+use Rattle.resolver_encoding.proofs.TableLemmas.{clause_made}
 use Rattle.resolver_encoding.proofs.table.ClauseTable.push_literals.Goals as goal
 
 pub returns-in_err-push_helpers-clause-grows : goal.returns-in_err-push_helpers-clause-grows
@@ -41,39 +41,3 @@ returns-clause-clause g c = λ u are.
     (Adds-trans _ _ _ _ _ _ _ (Grows-trans _ _ _ helpers candidates) (subst Front c.first_of.ensures c.in_ok-push_front.ensures.added)
     (Adds-trans _ _ _ _ _ _ _ candidates (subst Helpers c.depends_on-helpers.ensures c.in_ok-push_helpers.ensures.added)
     (subst Candidates (c.deref-3.ensures.value ∙ are) c.in_ok-push_candidates.ensures.added))))
-
-pub returns-in_err-push_front-clause-adds : goal.returns-in_err-push_front-clause-adds
-returns-in_err-push_front-clause-adds g c = λ u are.
-    front_adds u c.args.kind.now _ _ c.first_of.result c.second_of-second.result c.first_of.ensures c.second_of-second.ensures c.push_front.ensures.adds
-
-pub returns-in_err-push_helpers-clause-adds : goal.returns-in_err-push_helpers-clause-adds
-returns-in_err-push_helpers-clause-adds g c = λ u are.
-    let kind = c.args.kind.now in
-    helpers_add u kind _ _ _ c.depends_on-helpers.result.now c.depends_on-helpers.ensures
-    (front_adds u kind _ _ c.first_of.result c.second_of-second.result c.first_of.ensures c.second_of-second.ensures c.push_front.ensures.adds)
-    c.push_helpers.ensures.adds
-
-pub returns-in_err-ends-clause-adds : goal.returns-in_err-ends-clause-adds
-returns-in_err-ends-clause-adds g c = λ u are.
-    let kind = c.args.kind.now in
-    helpers_add u kind _ _ _ c.depends_on-helpers.result.now c.depends_on-helpers.ensures
-    (front_adds u kind _ _ c.first_of.result c.second_of-second.result c.first_of.ensures c.second_of-second.ensures c.push_front.ensures.adds)
-    c.push_helpers.ensures.adds
-
-pub returns-in_err-push_candidates-clause-adds : goal.returns-in_err-push_candidates-clause-adds
-returns-in_err-push_candidates-clause-adds g c = λ u are.
-    let kind = c.args.kind.now in
-    candidates_add u kind _ _ _ c.deref-3.result.now (c.deref-3.ensures.value ∙ are)
-    (helpers_add u kind _ _ _ c.depends_on-helpers.result.now c.depends_on-helpers.ensures
-    (front_adds u kind _ _ c.first_of.result c.second_of-second.result c.first_of.ensures c.second_of-second.ensures c.push_front.ensures.adds)
-    c.push_helpers.ensures.adds)
-    c.push_candidates.ensures.adds
-
-pub returns-clause-adds : goal.returns-clause-adds
-returns-clause-adds g c = λ u are.
-    let kind = c.args.kind.now in
-    candidates_add u kind _ _ _ c.deref-3.result.now (c.deref-3.ensures.value ∙ are)
-    (helpers_add u kind _ _ _ c.depends_on-helpers.result.now c.depends_on-helpers.ensures
-    (front_adds u kind _ _ c.first_of.result c.second_of-second.result c.first_of.ensures c.second_of-second.ensures c.push_front.ensures.adds)
-    c.push_helpers.ensures.adds)
-    c.push_candidates.ensures.adds

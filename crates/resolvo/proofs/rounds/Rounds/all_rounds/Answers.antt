@@ -1,7 +1,6 @@
 use Rattle.resolvo.proofs.RoundLemmas.{room_trans, room_same}
 use Rattle.resolvo.proofs.GoingLemmas.{goes_trans, goes_begin}
-use Rattle.resolvo.proofs.LeadingLemmas.{leads_trans, leads_same}
-use Rattle.std.proofs.Common.{arith, refl}
+use Rattle.std.proofs.Common.{arith}
 use Rattle.std.proofs.lemmas.Result.{IfOk-from_err}
 use Rattle.resolver_encoding.proofs.RefusalLemmas.{IfErr-of}
 use Rattle.resolvo.proofs.rounds.Rounds.all_rounds.Goals as goal
@@ -15,8 +14,6 @@ returns-in-Some g c =
           c.rounds.invariant.keeps c.in_ok-found.ensures.keeps;
       found = rw c.in-Some.is at c.in_ok-found.ensures.found;
       counted = rw c.in-Some.is at c.in_ok-found.ensures.counted;
-      led = leads_trans (g.D.Interner.universe c.args.provider.now) c.args.self.now c.rounds.self c.rounds_until_read.new.self c.requires.rounds.variables
-          c.rounds.invariant.keeps c.rounds.invariant.led c.rounds_until_read.ensures.led;
       limits = room_trans c.args.self.now c.rounds.self c.rounds_until_read.new.self c.rounds.invariant.room c.in_ok-found.ensures.limits;
       refusal = tt;
     }
@@ -27,8 +24,6 @@ rounds-preserved g c = record {
   rounds = c.in_ok-found.ensures.rounds;
   keeps = goes_trans (g.D.Interner.universe c.args.provider.now) c.args.self.now c.rounds.self c.rounds_until_read.new.self c.requires.rounds.variables
       c.rounds.invariant.keeps c.in_ok-found.ensures.keeps;
-  led = leads_trans (g.D.Interner.universe c.args.provider.now) c.args.self.now c.rounds.self c.rounds_until_read.new.self c.requires.rounds.variables
-      c.rounds.invariant.keeps c.rounds.invariant.led c.rounds_until_read.ensures.led;
   room = room_trans c.args.self.now c.rounds.self c.rounds_until_read.new.self c.rounds.invariant.room c.in_ok-found.ensures.limits;
 }
 
@@ -40,8 +35,6 @@ returns-in_err-found g c =
       keeps = IfOk-from_err c.from_residual.result _ c.from_residual.ensures.0;
       found = IfOk-from_err c.from_residual.result _ c.from_residual.ensures.0;
       counted = IfOk-from_err c.from_residual.result _ c.from_residual.ensures.0;
-      led = leads_trans (g.D.Interner.universe c.args.provider.now) c.args.self.now c.rounds.self c.rounds_until_read.new.self c.requires.rounds.variables
-          c.rounds.invariant.keeps c.rounds.invariant.led c.rounds_until_read.ensures.led;
       limits = room_trans c.args.self.now c.rounds.self c.rounds_until_read.new.self c.rounds.invariant.room c.rounds_until_read.ensures.limits;
       refusal = IfErr-of c.from_residual.result _ _ c.from_residual.ensures.1 c.in_err-found.ensures.refusal;
     }
@@ -54,7 +47,6 @@ rounds-init g c =
       is_true = c.requires.is_true;
       rounds = c.requires.rounds;
       keeps = goes_begin u self;
-      led = leads_same u self self refl;
       room = room_same self;
     }
 

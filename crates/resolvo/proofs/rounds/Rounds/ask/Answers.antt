@@ -5,8 +5,6 @@ use Rattle.resolver_encoding.specs.Turns.{AsksOnly}
 use Rattle.resolver_encoding.specs.declared.encoding.Encoding.{Encoding}
 use Rattle.resolvo.specs.RoundStates.{notes_of}
 use Rattle.resolvo.proofs.SoftLemmas.{asking_adds, rounds_added, standing_asked, standing_loaded, still_added}
-use Rattle.resolver_encoding.proofs.LedReading.{led_package}
-use Rattle.resolvo.proofs.LeadingLemmas.{led_same}
 use Rattle.std.proofs.lemmas.Result.{IfOk-from_err}
 use Rattle.resolver_encoding.proofs.RefusalLemmas.{IfErr-of, shortage_of_memory}
 use Rattle.resolvo.proofs.StuckLemmas.{full_stop}
@@ -48,12 +46,6 @@ returns g c =
           (rounds_added u old e c.requires.rounds c.ask.ensures.bounded adds).variables c.in_ok-load.ensures.same c.in_ok-load.ensures.turn
           (standing_asked u root taken refused seeds packages old e c.requires.rounds adds alone.exempt b n
           (subst Own (sym c.version_set_name-name.ensures) own) alone);
-      led = λ root taken refused seeds packages own b led.
-          let u = g.D.Interner.universe c.args.provider.now in
-          let Own : g.row.N.Denot → Type 0 = λ m. Contains packages m in
-          led_same u root seeds packages c.ask.new.self c.load.new.self.encoding c.load.ensures.same.encoding
-          (led_package u root seeds packages c.version_set_name-name.result (notes_of c.args.self.now) (notes_in c.ask.new.self)
-          (subst Own (sym c.version_set_name-name.ensures) own) b.near c.ask.ensures.adds led);
       limits = room_trans c.args.self.now (record c.args.self.now { encoding = c.ask.new.self }) c.load.new.self (record { notes = c.ask.ensures.limits; clauses = refl; learnt = refl }) c.load.ensures.limits;
       refusal = tt;
     }
@@ -68,10 +60,6 @@ returns-in_err-ask g c =
       chosen = IfOk-from_err c.from_residual.result _ c.from_residual.ensures.0;
       alone = IfOk-from_err c.from_residual.result _ c.from_residual.ensures.0;
       standing = IfOk-from_err c.from_residual.result _ c.from_residual.ensures.0;
-      led = λ root taken refused seeds packages own b led.
-          let Own : g.row.N.Denot → Type 0 = λ m. Contains packages m in
-          led_package (g.D.Interner.universe c.args.provider.now) root seeds packages c.version_set_name-name.result (notes_of c.args.self.now)
-          (notes_in c.ask.new.self) (subst Own (sym c.version_set_name-name.ensures) own) b.near c.ask.ensures.adds led;
       limits = record { notes = c.ask.ensures.limits; clauses = refl; learnt = refl };
       refusal = IfErr-of c.from_residual.result _ _ c.from_residual.ensures.1 (full_stop (g.D.DependencyProvider.may_cancel c.args.provider.now) (record c.args.self.now { encoding = c.ask.new.self }) _ c.in_err-ask.ensures.refusal);
     }
@@ -86,12 +74,6 @@ returns-in_err-load g c =
       chosen = IfOk-from_err c.from_residual-in_err-load.result _ c.from_residual-in_err-load.ensures.0;
       alone = IfOk-from_err c.from_residual-in_err-load.result _ c.from_residual-in_err-load.ensures.0;
       standing = IfOk-from_err c.from_residual-in_err-load.result _ c.from_residual-in_err-load.ensures.0;
-      led = λ root taken refused seeds packages own b led.
-          let u = g.D.Interner.universe c.args.provider.now in
-          let Own : g.row.N.Denot → Type 0 = λ m. Contains packages m in
-          led_same u root seeds packages c.ask.new.self c.load.new.self.encoding c.load.ensures.same.encoding
-          (led_package u root seeds packages c.version_set_name-name.result (notes_of c.args.self.now) (notes_in c.ask.new.self)
-          (subst Own (sym c.version_set_name-name.ensures) own) b.near c.ask.ensures.adds led);
       limits = room_trans c.args.self.now (record c.args.self.now { encoding = c.ask.new.self }) c.load.new.self (record { notes = c.ask.ensures.limits; clauses = refl; learnt = refl }) c.load.ensures.limits;
       refusal = IfErr-of c.from_residual-in_err-load.result _ _ c.from_residual-in_err-load.ensures.1 (shortage_of_memory _ _ c.in_err-load.ensures.memory);
     }

@@ -1,11 +1,8 @@
-use Rattle.std.proofs.Common.{arith, [], ap, length, refl, subst, sym, true, List, ◌≡◌, ◌<◌}
+use Rattle.std.proofs.Common.{arith, ap, length, refl, true, List, ◌≡◌, ◌<◌}
 use Rattle.resolvo.proofs.GoingLemmas.{still_all}
 use Rattle.resolvo.proofs.SoftLemmas.{accepted, just_assumed, not_accepted, rounds_assumed, rounds_held, still_assumed, still_held, turned_held}
-use Rattle.resolvo.proofs.SoftLemmas.{led_refused, led_tried}
 use Rattle.resolver_encoding.proofs.SoFarLemmas.{lawful_solvables}
 use Rattle.resolver_encoding.specs.Encodings.{Notes, KeepsLimits}
-use Rattle.resolver_encoding.specs.Led.{AreLed}
-use Rattle.resolver_clause_store.proofs.ListLemmas.{Contains-here as here}
 use Rattle.std.proofs.lemmas.Option.{slice_get_within}
 use Rattle.resolver_clause_store.specs.declared.Origin.TheVariants.{Solvable as SolvableOrigin}
 use Rattle.resolvo.specs.RoundStates.{notes_of}
@@ -45,13 +42,6 @@ returns-then-answered g c =
           c.requires.stands c.requires.free seen seed c.begin_turn.ensures.only c.in_ok-begin_turn.ensures.exempts c.in_ok-begin_turn.ensures.stays.so_far
           c.in_ok-assume.ensures.gains c.in_ok-assume.ensures.held b
           c.is_answered.new.self c.in_ok-answered.ensures.keeps (c.in_ok-answered.ensures.answer c.if-answered.true));
-      led = λ seen root taken refused seeds packages within b led.
-          let u = g.D.Interner.universe c.args.provider.now in
-          led_tried u root taken refused seeds packages c.args.solvable c.args.variable c.args.self.now c.begin_turn.new.self c.assume.new.self
-          c.requires.loaded.variables c.requires.rounds.reading.so_far.half.encoding.distinct c.requires.still c.requires.stands c.requires.free seen
-          (within c.args.solvable (here c.args.solvable [])) c.begin_turn.ensures.only c.in_ok-begin_turn.ensures.exempts c.in_ok-begin_turn.ensures.stays.so_far
-          c.in_ok-assume.ensures.gains c.in_ok-assume.ensures.held b
-          c.is_answered.new.self c.is_answered.ensures.led led;
       limits = let room = room_trans c.args.self.now (record c.args.self.now { encoding = c.begin_turn.new.self; search = c.assume.new.self }) c.is_answered.new.self
           (record { notes = limits_begun _ _ _ c.begin_turn.ensures.only; clauses = refl; learnt = refl }) c.is_answered.ensures.limits in
           record { notes = room.notes; clauses = room.clauses; learnt = room.learnt };
@@ -84,13 +74,6 @@ returns g c =
           (c.in_ok-answered.ensures.unanswered c.if-answered.false)
           (length c.exempt-exempt.result.now)
           (ap length c.exempt-exempt.ensures) c.in_ok-answered.ensures.rounds c.refuse.new.self c.in_ok-refuse.ensures.refused c.in_ok-refuse.ensures.still;
-      led = λ seen root taken refused seeds packages within b led.
-          let u = g.D.Interner.universe c.args.provider.now in
-          led_refused u root taken refused seeds packages c.args.solvable c.args.variable c.args.self.now c.begin_turn.new.self c.assume.new.self
-          c.requires.loaded.variables c.requires.rounds.reading.so_far.half.encoding.distinct c.requires.still c.requires.stands c.requires.free seen
-          (within c.args.solvable (here c.args.solvable [])) c.begin_turn.ensures.only c.in_ok-begin_turn.ensures.exempts c.in_ok-begin_turn.ensures.stays.so_far
-          c.in_ok-assume.ensures.gains c.in_ok-assume.ensures.held b
-          c.is_answered.new.self c.in_ok-answered.ensures.keeps c.refuse.new.self c.is_answered.ensures.led c.refuse.ensures.led led;
       limits = room_trans c.args.self.now c.is_answered.new.self c.refuse.new.self
           (room_trans c.args.self.now (record c.args.self.now { encoding = c.begin_turn.new.self; search = c.assume.new.self }) c.is_answered.new.self
           (record { notes = limits_begun _ _ _ c.begin_turn.ensures.only; clauses = refl; learnt = refl }) c.is_answered.ensures.limits) c.refuse.ensures.limits;
@@ -105,9 +88,6 @@ returns-in_err-begin_turn g c =
       still = IfOk-from_err c.from_residual.result _ c.from_residual.ensures.0;
       counted = IfOk-from_err c.from_residual.result _ c.from_residual.ensures.0;
       turned = IfOk-from_err c.from_residual.result _ c.from_residual.ensures.0;
-      led = λ seen root taken refused seeds packages within b led.
-          let Led : Notes g.row.N.Denot g.row.S.Denot → Type 0 = λ n. AreLed (g.D.Interner.universe c.args.provider.now) root seeds packages n in
-          subst Led (sym c.begin_turn.ensures.only) led;
       limits = record { notes = limits_begun _ _ _ c.begin_turn.ensures.only; clauses = refl; learnt = refl };
       refusal = IfErr-of c.from_residual.result _ _ c.from_residual.ensures.1 (shortage_of_memory _ _ c.in_err-begin_turn.ensures.memory);
     }
@@ -120,9 +100,6 @@ returns-in_err-assume g c =
       still = IfOk-from_err c.from_residual-in_err-assume.result _ c.from_residual-in_err-assume.ensures.0;
       counted = IfOk-from_err c.from_residual-in_err-assume.result _ c.from_residual-in_err-assume.ensures.0;
       turned = IfOk-from_err c.from_residual-in_err-assume.result _ c.from_residual-in_err-assume.ensures.0;
-      led = λ seen root taken refused seeds packages within b led.
-          let Led : Notes g.row.N.Denot g.row.S.Denot → Type 0 = λ n. AreLed (g.D.Interner.universe c.args.provider.now) root seeds packages n in
-          subst Led (sym c.begin_turn.ensures.only) led;
       limits = record { notes = limits_begun _ _ _ c.begin_turn.ensures.only; clauses = refl; learnt = refl };
       refusal = IfErr-of c.from_residual-in_err-assume.result _ _ c.from_residual-in_err-assume.ensures.1 tt;
     }
@@ -135,13 +112,6 @@ returns-in_err-answered g c =
       still = IfOk-from_err c.from_residual-in_err-answered.result _ c.from_residual-in_err-answered.ensures.0;
       counted = IfOk-from_err c.from_residual-in_err-answered.result _ c.from_residual-in_err-answered.ensures.0;
       turned = IfOk-from_err c.from_residual-in_err-answered.result _ c.from_residual-in_err-answered.ensures.0;
-      led = λ seen root taken refused seeds packages within b led.
-          let u = g.D.Interner.universe c.args.provider.now in
-          led_tried u root taken refused seeds packages c.args.solvable c.args.variable c.args.self.now c.begin_turn.new.self c.assume.new.self
-          c.requires.loaded.variables c.requires.rounds.reading.so_far.half.encoding.distinct c.requires.still c.requires.stands c.requires.free seen
-          (within c.args.solvable (here c.args.solvable [])) c.begin_turn.ensures.only c.in_ok-begin_turn.ensures.exempts c.in_ok-begin_turn.ensures.stays.so_far
-          c.in_ok-assume.ensures.gains c.in_ok-assume.ensures.held b
-          c.is_answered.new.self c.is_answered.ensures.led led;
       limits = room_trans c.args.self.now (record c.args.self.now { encoding = c.begin_turn.new.self; search = c.assume.new.self }) c.is_answered.new.self
           (record { notes = limits_begun _ _ _ c.begin_turn.ensures.only; clauses = refl; learnt = refl }) c.is_answered.ensures.limits;
       refusal = IfErr-of c.from_residual-in_err-answered.result _ _ c.from_residual-in_err-answered.ensures.1 c.in_err-answered.ensures.refusal;
@@ -155,13 +125,6 @@ returns-in_err-refuse g c =
       still = IfOk-from_err c.from_residual-in_err-refuse.result _ c.from_residual-in_err-refuse.ensures.0;
       counted = IfOk-from_err c.from_residual-in_err-refuse.result _ c.from_residual-in_err-refuse.ensures.0;
       turned = IfOk-from_err c.from_residual-in_err-refuse.result _ c.from_residual-in_err-refuse.ensures.0;
-      led = λ seen root taken refused seeds packages within b led.
-          let u = g.D.Interner.universe c.args.provider.now in
-          led_refused u root taken refused seeds packages c.args.solvable c.args.variable c.args.self.now c.begin_turn.new.self c.assume.new.self
-          c.requires.loaded.variables c.requires.rounds.reading.so_far.half.encoding.distinct c.requires.still c.requires.stands c.requires.free seen
-          (within c.args.solvable (here c.args.solvable [])) c.begin_turn.ensures.only c.in_ok-begin_turn.ensures.exempts c.in_ok-begin_turn.ensures.stays.so_far
-          c.in_ok-assume.ensures.gains c.in_ok-assume.ensures.held b
-          c.is_answered.new.self c.in_ok-answered.ensures.keeps c.refuse.new.self c.is_answered.ensures.led c.refuse.ensures.led led;
       limits = room_trans c.args.self.now c.is_answered.new.self c.refuse.new.self
           (room_trans c.args.self.now (record c.args.self.now { encoding = c.begin_turn.new.self; search = c.assume.new.self }) c.is_answered.new.self
           (record { notes = limits_begun _ _ _ c.begin_turn.ensures.only; clauses = refl; learnt = refl }) c.is_answered.ensures.limits) c.refuse.ensures.limits;

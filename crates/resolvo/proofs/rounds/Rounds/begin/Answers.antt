@@ -21,7 +21,6 @@ returns g c =
       near = c.in_ok-read_root.ensures.near [] [];
       exempt = c.in_ok-read_root.ensures.exempt ∙ c.requires.fresh.exempt;
       turn = c.requires.fresh.turn;
-      led = c.read_root.ensures.led;
       limits = record { notes = c.read_root.ensures.limits; clauses = refl; learnt = refl };
       refusal = tt;
     }
@@ -35,7 +34,6 @@ returns-in_err-read_root g c =
       near = IfOk-from_err c.from_residual.result _ c.from_residual.ensures.0;
       exempt = IfOk-from_err c.from_residual.result _ c.from_residual.ensures.0;
       turn = IfOk-from_err c.from_residual.result _ c.from_residual.ensures.0;
-      led = c.read_root.ensures.led;
       limits = record { notes = c.read_root.ensures.limits; clauses = refl; learnt = refl };
       refusal = IfErr-of c.from_residual.result _ _ c.from_residual.ensures.1 (full_stop (g.D.DependencyProvider.may_cancel c.args.provider.now) (record c.args.self.now { encoding = c.read_root.new.self }) _ c.in_err-read_root.ensures.refusal);
     }

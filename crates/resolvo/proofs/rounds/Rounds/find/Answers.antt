@@ -5,7 +5,6 @@ use Rattle.resolvo.specs.ClauseSearches.{IsRefused, base_of, trail_of}
 use Rattle.resolvo.specs.RoundStates.{IsAnswering, IsFound, notes_of}
 use Rattle.resolvo.proofs.GoingLemmas.{still_all}
 use Rattle.resolvo.proofs.SoftLemmas.{between_begun, between_held, rounds_held, still_held}
-use Rattle.resolvo.proofs.LeadingLemmas.{led_root_turn, none_begun}
 use Rattle.resolvo.proofs.RoundLemmas.{room_trans}
 use Rattle.std.proofs.lemmas.Result.{IfOk-from_err}
 use Rattle.resolver_encoding.proofs.RefusalLemmas.{IfErr-of}
@@ -39,17 +38,6 @@ returns-in_ok-soft_turns-in-Answer g c =
           (w.0, λ e. w.1, w.2);
       counted = c.in_ok-soft_turns-in-Answer.ensures.counted;
       table = c.in_ok-soft_turns-in-Answer.ensures.rounds.reading.so_far.half.encoding.encoded.count;
-      led = let u = g.D.Interner.universe c.args.provider.now in
-          let root : Demands = record { requirements = c.args.requirements.now; constraints = c.args.constraints.now } in
-          let rest = c.all_rounds.new.self in
-          let found : IsFound u rest c.in_ok-all_rounds.field-0 = c.in_ok-all_rounds.ensures.found in
-          let answering : IsAnswering u rest = rw c.in-Answer.is at found in
-          let begun = c.in_ok-begin.ensures in
-          let first = between_begun u root c.begin.new.self rest begun.read begun.near begun.exempt begun.turn c.in_ok-all_rounds.ensures.keeps answering in
-          c.soft_turns.ensures.led root (between_held u rest c.hold.new.self c.hold.ensures.trail c.hold.ensures.count root [] first)
-          (record {
-            all = led_root_turn u root c.begin.new.self rest begun.read begun.near begun.turn c.all_rounds.ensures.led (c.begin.ensures.led [] []);
-          });
       limits = let first = room_trans c.args.self.now c.begin.new.self c.all_rounds.new.self c.begin.ensures.limits c.all_rounds.ensures.limits in
           room_trans c.args.self.now (record c.all_rounds.new.self { search = c.hold.new.self }) c.soft_turns.new.self
           (record { notes = first.notes; clauses = first.clauses; learnt = first.learnt }) c.soft_turns.ensures.limits;
@@ -68,15 +56,6 @@ returns-in-Contradiction g c =
           ([], λ e. cc, (c.in_ok-all_rounds.ensures.keeps.read root c.in_ok-begin.ensures.read, core));
       counted = c.in_ok-all_rounds.ensures.counted;
       table = c.in_ok-all_rounds.ensures.rounds.reading.so_far.half.encoding.encoded.count;
-      led = let root : Demands = record { requirements = c.args.requirements.now; constraints = c.args.constraints.now } in
-          let begun = c.in_ok-begin.ensures in (
-            [],
-            none_begun g.I.Iterator.next_gives c.args.soft c.args.list.now,
-            record {
-              all = led_root_turn (g.D.Interner.universe c.args.provider.now) root c.begin.new.self c.all_rounds.new.self begun.read begun.near begun.turn
-                  c.all_rounds.ensures.led (c.begin.ensures.led [] []);
-            },
-          );
       limits = room_trans c.args.self.now c.begin.new.self c.all_rounds.new.self c.begin.ensures.limits c.all_rounds.ensures.limits;
       refusal = tt;
     }
@@ -92,15 +71,6 @@ returns-in-Refused g c =
           absurd (omega (arith, refused.turn, c.in_ok-all_rounds.ensures.keeps.turn.base, c.in_ok-begin.ensures.turn.base));
       counted = c.in_ok-all_rounds.ensures.counted;
       table = c.in_ok-all_rounds.ensures.rounds.reading.so_far.half.encoding.encoded.count;
-      led = let root : Demands = record { requirements = c.args.requirements.now; constraints = c.args.constraints.now } in
-          let begun = c.in_ok-begin.ensures in (
-            [],
-            none_begun g.I.Iterator.next_gives c.args.soft c.args.list.now,
-            record {
-              all = led_root_turn (g.D.Interner.universe c.args.provider.now) root c.begin.new.self c.all_rounds.new.self begun.read begun.near begun.turn
-                  c.all_rounds.ensures.led (c.begin.ensures.led [] []);
-            },
-          );
       limits = room_trans c.args.self.now c.begin.new.self c.all_rounds.new.self c.begin.ensures.limits c.all_rounds.ensures.limits;
       refusal = tt;
     }
@@ -117,7 +87,6 @@ returns-in_err-begin g c =
       done = IfOk-from_err c.from_residual.result _ c.from_residual.ensures.0;
       counted = IfOk-from_err c.from_residual.result _ c.from_residual.ensures.0;
       table = IfOk-from_err c.from_residual.result _ c.from_residual.ensures.0;
-      led = ([], none_begun g.I.Iterator.next_gives c.args.soft c.args.list.now, record { all = c.begin.ensures.led [] [] });
       limits = c.begin.ensures.limits;
       refusal = IfErr-of c.from_residual.result _ _ c.from_residual.ensures.1 c.in_err-begin.ensures.refusal;
     }
@@ -129,15 +98,6 @@ returns-in_err-all_rounds g c =
       done = IfOk-from_err c.from_residual-in_err-all_rounds.result _ c.from_residual-in_err-all_rounds.ensures.0;
       counted = IfOk-from_err c.from_residual-in_err-all_rounds.result _ c.from_residual-in_err-all_rounds.ensures.0;
       table = IfOk-from_err c.from_residual-in_err-all_rounds.result _ c.from_residual-in_err-all_rounds.ensures.0;
-      led = let root : Demands = record { requirements = c.args.requirements.now; constraints = c.args.constraints.now } in
-          let begun = c.in_ok-begin.ensures in (
-            [],
-            none_begun g.I.Iterator.next_gives c.args.soft c.args.list.now,
-            record {
-              all = led_root_turn (g.D.Interner.universe c.args.provider.now) root c.begin.new.self c.all_rounds.new.self begun.read begun.near begun.turn
-                  c.all_rounds.ensures.led (c.begin.ensures.led [] []);
-            },
-          );
       limits = room_trans c.args.self.now c.begin.new.self c.all_rounds.new.self c.begin.ensures.limits c.all_rounds.ensures.limits;
       refusal = IfErr-of c.from_residual-in_err-all_rounds.result _ _ c.from_residual-in_err-all_rounds.ensures.1 c.in_err-all_rounds.ensures.refusal;
     }
@@ -149,17 +109,6 @@ returns-in_err-soft_turns-in-Answer g c =
       done = IfOk-from_err c.from_residual-in_err-soft_turns-in-Answer.result _ c.from_residual-in_err-soft_turns-in-Answer.ensures.0;
       counted = IfOk-from_err c.from_residual-in_err-soft_turns-in-Answer.result _ c.from_residual-in_err-soft_turns-in-Answer.ensures.0;
       table = IfOk-from_err c.from_residual-in_err-soft_turns-in-Answer.result _ c.from_residual-in_err-soft_turns-in-Answer.ensures.0;
-      led = let u = g.D.Interner.universe c.args.provider.now in
-          let root : Demands = record { requirements = c.args.requirements.now; constraints = c.args.constraints.now } in
-          let rest = c.all_rounds.new.self in
-          let found : IsFound u rest c.in_ok-all_rounds.field-0 = c.in_ok-all_rounds.ensures.found in
-          let answering : IsAnswering u rest = rw c.in-Answer.is at found in
-          let begun = c.in_ok-begin.ensures in
-          let first = between_begun u root c.begin.new.self rest begun.read begun.near begun.exempt begun.turn c.in_ok-all_rounds.ensures.keeps answering in
-          c.soft_turns.ensures.led root (between_held u rest c.hold.new.self c.hold.ensures.trail c.hold.ensures.count root [] first)
-          (record {
-            all = led_root_turn u root c.begin.new.self rest begun.read begun.near begun.turn c.all_rounds.ensures.led (c.begin.ensures.led [] []);
-          });
       limits = let first = room_trans c.args.self.now c.begin.new.self c.all_rounds.new.self c.begin.ensures.limits c.all_rounds.ensures.limits in
           room_trans c.args.self.now (record c.all_rounds.new.self { search = c.hold.new.self }) c.soft_turns.new.self
           (record { notes = first.notes; clauses = first.clauses; learnt = first.learnt }) c.soft_turns.ensures.limits;

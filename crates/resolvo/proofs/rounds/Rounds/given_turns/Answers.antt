@@ -1,5 +1,5 @@
-use Rattle.std.proofs.Common.{Option, [], refl, subst, sym}
-use Rattle.resolvo.specs.Problems.{AreFirstItems, AreItems}
+use Rattle.std.proofs.Common.{Option, subst, sym}
+use Rattle.resolvo.specs.Problems.{AreItems}
 use Rattle.std.proofs.lemmas.Result.{IfOk-from_err}
 use Rattle.resolver_encoding.proofs.RefusalLemmas.{IfErr-of}
 use Rattle.resolvo.proofs.rounds.Rounds.given_turns.Goals as goal
@@ -15,22 +15,9 @@ returns-in_ok-solvable_turns-in-Some g c =
           let w = c.in_ok-solvable_turns-in-Some.ensures.between root b in
           let Items : Option g.row.I.Denot → Type 0 = λ soft. AreItems g.I.Iterator.next_gives soft w.0 in
           (w.0, subst Items (sym c.in-Some.is) w.1, w.2);
-      over = λ root b led.
-          let w = c.in_ok-solvable_turns-in-Some.ensures.over root b led in
-          let Items : Option g.row.I.Denot → Type 0 = λ soft. AreItems g.I.Iterator.next_gives soft w.0 in
-          (w.0, subst Items (sym c.in-Some.is) w.1, w.2, w.3);
-      led = λ root b led.
-          let w = c.solvable_turns.ensures.led root b led in
-          let Items : Option g.row.I.Denot → Type 0 = λ soft. AreFirstItems g.I.Iterator.next_gives soft w.0 in
-          (w.0, subst Items (sym c.in-Some.is) w.1, w.2);
       limits = c.solvable_turns.ensures.limits;
       refusal = tt;
     }
-
-pub returns-in-None-clause-over : goal.returns-in-None-clause-over
-returns-in-None-clause-over g c = λ root b led.
-    let Items : Option g.row.I.Denot → Type 0 = λ soft. AreItems g.I.Iterator.next_gives soft [] in
-    ([], subst Items (sym c.in-None.is) refl, b, led)
 
 pub returns-in_err-solvable_turns-in-Some : goal.returns-in_err-solvable_turns-in-Some
 returns-in_err-solvable_turns-in-Some g c =
@@ -40,11 +27,6 @@ returns-in_err-solvable_turns-in-Some g c =
       still = IfOk-from_err c.from_residual.result _ c.from_residual.ensures.0;
       counted = IfOk-from_err c.from_residual.result _ c.from_residual.ensures.0;
       between = IfOk-from_err c.from_residual.result _ c.from_residual.ensures.0;
-      over = IfOk-from_err c.from_residual.result _ c.from_residual.ensures.0;
-      led = λ root b led.
-          let w = c.solvable_turns.ensures.led root b led in
-          let Items : Option g.row.I.Denot → Type 0 = λ soft. AreFirstItems g.I.Iterator.next_gives soft w.0 in
-          (w.0, subst Items (sym c.in-Some.is) w.1, w.2);
       limits = c.solvable_turns.ensures.limits;
       refusal = IfErr-of c.from_residual.result _ _ c.from_residual.ensures.1 c.in_err-solvable_turns-in-Some.ensures.refusal;
     }

@@ -33,13 +33,9 @@ returns-in_err-all_rounds g c =
       counted = IfOk-from_err c.from_residual.result _ c.from_residual.ensures.0;
       answer = IfOk-from_err c.from_residual.result _ c.from_residual.ensures.0;
       unanswered = IfOk-from_err c.from_residual.result _ c.from_residual.ensures.0;
-      led = c.all_rounds.ensures.led;
       limits = c.all_rounds.ensures.limits;
       refusal = IfErr-of c.from_residual.result _ _ c.from_residual.ensures.1 c.in_err-all_rounds.ensures.refusal;
     }
-
-pub returns-clause-led : goal.returns-clause-led
-returns-clause-led g c = c.all_rounds.ensures.led
 
 pub returns-clause-answer : goal.returns-clause-answer
 returns-clause-answer g c =

@@ -1,9 +1,8 @@
 use Rattle.std.proofs.Common.{◌≡◌, ◌+◌, [], ◌∷◌, ◌++◌, ◌∙◌, List, ap, append-nil, arith, subst, sym, take}
 use Rattle.std.proofs.lemmas.List.{append_assoc, take_all, take_more}
 use Rattle.resolver_clause_store.specs.declared.SoftRequirement.{SoftRequirement}
-use Rattle.resolvo.specs.RoundStates.{IsBetween, IsLedBy}
+use Rattle.resolvo.specs.RoundStates.{IsBetween}
 use Rattle.resolvo.proofs.RoundLemmas.{room_same, room_trans}
-use Rattle.resolvo.proofs.LeadingLemmas.{Extends-take}
 use Rattle.std.proofs.lemmas.Result.{IfOk-from_err}
 use Rattle.resolver_encoding.proofs.RefusalLemmas.{IfErr-of}
 use Rattle.resolvo.proofs.rounds.Rounds.list_turns.Goals as goal
@@ -18,9 +17,6 @@ loop-requirement-init g c = record {
   between = λ root done b.
       let Between : List (SoftRequirement g.row.S.Denot) → Type 0 = λ list. IsBetween (g.D.Interner.universe c.args.provider.now) root list c.args.self.now in
       subst Between (sym (append-nil done)) b;
-  led = λ root done b led.
-      let Led : List (SoftRequirement g.row.S.Denot) → Type 0 = λ list. IsLedBy (g.D.Interner.universe c.args.provider.now) root list c.args.self.now in
-      subst Led (sym (append-nil done)) led;
 }
 
 pub loop-requirement-preserved : goal.loop-requirement-preserved
@@ -41,12 +37,6 @@ loop-requirement-preserved g c =
           let more : take (i + 1) all ≡ take i all ++ r ∷ [] = take_more all i r (omega arith) ∙ ap (λ x. take i all ++ x ∷ []) (sym c.requirement-item.is) in
           let is : (done ++ take i all) ++ r ∷ [] ≡ done ++ take (i + 1) all = append_assoc done (take i all) (r ∷ []) ∙ ap (λ x. done ++ x) (sym more) in
           subst Between is (c.in_ok-soft_turn.ensures.between root (done ++ take i all) (before.between root done b));
-      led = λ root done b led.
-          let Led : List (SoftRequirement g.row.S.Denot) → Type 0 =
-          λ list. IsLedBy (g.D.Interner.universe c.args.provider.now) root list c.soft_turn.new.self in
-          let more : take (i + 1) all ≡ take i all ++ r ∷ [] = take_more all i r (omega arith) ∙ ap (λ x. take i all ++ x ∷ []) (sym c.requirement-item.is) in
-          let is : (done ++ take i all) ++ r ∷ [] ≡ done ++ take (i + 1) all = append_assoc done (take i all) (r ∷ []) ∙ ap (λ x. done ++ x) (sym more) in
-          subst Led is (c.soft_turn.ensures.led root (done ++ take i all) (before.between root done b) (before.led root done b led));
     }
 
 pub returns : goal.returns
@@ -60,10 +50,6 @@ returns g c =
           let Between : List (SoftRequirement g.row.S.Denot) → Type 0 =
           λ list. IsBetween (g.D.Interner.universe c.args.provider.now) root (done ++ list) c.loop-requirement.self in
           subst Between (take_all c.loop-requirement.requirement-index all (omega arith)) (c.loop-requirement.invariant.between root done b);
-      led = λ root done b led.
-          let i = c.loop-requirement.requirement-index in
-          let all = c.args.list.now in
-          (take i all, Extends-take i all, c.loop-requirement.invariant.led root done b led);
       limits = c.loop-requirement.invariant.room;
       refusal = tt;
     }
@@ -75,18 +61,6 @@ returns-in_err-soft_turn g c =
       rounds = IfOk-from_err c.from_residual.result _ c.from_residual.ensures.0;
       counted = IfOk-from_err c.from_residual.result _ c.from_residual.ensures.0;
       between = IfOk-from_err c.from_residual.result _ c.from_residual.ensures.0;
-      led = λ root done b led.
-          let i = c.loop-requirement.requirement-index in
-          let all = c.args.list.now in
-          let r = c.requirement-item.result in
-          let before = c.loop-requirement.invariant in
-          let Led : List (SoftRequirement g.row.S.Denot) → Type 0 = λ list. IsLedBy (g.D.Interner.universe c.args.provider.now) root list c.soft_turn.new.self in
-          let more : take (i + 1) all ≡ take i all ++ r ∷ [] = take_more all i r (omega arith) ∙ ap (λ x. take i all ++ x ∷ []) (sym c.requirement-item.is) in
-          let is : (done ++ take i all) ++ r ∷ [] ≡ done ++ take (i + 1) all = append_assoc done (take i all) (r ∷ []) ∙ ap (λ x. done ++ x) (sym more) in (
-            take (i + 1) all,
-            Extends-take (i + 1) all,
-            subst Led is (c.soft_turn.ensures.led root (done ++ take i all) (before.between root done b) (before.led root done b led)),
-          );
       limits = room_trans c.args.self.now c.loop-requirement.self c.soft_turn.new.self c.loop-requirement.invariant.room c.soft_turn.ensures.limits;
       refusal = IfErr-of c.from_residual.result _ _ c.from_residual.ensures.1 c.in_err-soft_turn.ensures.refusal;
     }

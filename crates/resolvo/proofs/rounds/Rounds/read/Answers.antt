@@ -7,7 +7,6 @@ use Rattle.resolvo.specs.RoundStates.{notes_of}
 use Rattle.resolvo.proofs.RoundLemmas.{chosen_known, read_first, read_more, reading_first}
 use Rattle.resolvo.proofs.GoingLemmas.{drawn_or_assumed, goes_read}
 use Rattle.resolver_encoding.proofs.ReachLemmas.{positives_seen}
-use Rattle.resolvo.proofs.LeadingLemmas.{leads_read, leads_same}
 use Rattle.std.proofs.lemmas.Result.{IfOk-from_err}
 use Rattle.resolver_encoding.proofs.RefusalLemmas.{IfErr-of, shortage_of_memory}
 use Rattle.resolvo.proofs.StuckLemmas.{full_stop}
@@ -49,12 +48,6 @@ returns g c =
           IsProgress (notes_in e) (notes_in c.read_chosen.new.self) c.in_ok-progress.progress in
           subst Progress c.in_ok-from.ensures.following.encoding c.in_ok-progress.ensures.progress;
       fit = c.in_ok-progress.ensures.fit;
-      led = let u = g.D.Interner.universe c.args.provider.now in
-          let old = c.args.self.now in
-          leads_read u old c.follow.new.self c.in_ok-from.from c.solvables.result.now.keys c.read_chosen.new.self c.requires.loaded
-          c.in_ok-from.ensures.following c.in_ok-from.ensures.followed c.solvables.ensures c.read_chosen.ensures.led
-          (drawn_or_assumed old.search (notes_of old).table (notes_of old).requirements c.requires.rounds.consistent c.requires.loaded.loaded)
-          (λ root encoding. positives_seen u root (notes_of old) encoding);
       limits = let mid = c.follow.ensures.limits in
           let kept = c.read_chosen.ensures.limits in
           record {
@@ -74,7 +67,6 @@ returns-in_err-from g c =
       followed = IfOk-from_err c.from_residual.result _ c.from_residual.ensures.0;
       progress = IfOk-from_err c.from_residual.result _ c.from_residual.ensures.0;
       fit = IfOk-from_err c.from_residual.result _ c.from_residual.ensures.0;
-      led = leads_same (g.D.Interner.universe c.args.provider.now) c.args.self.now c.follow.new.self c.follow.ensures.same;
       limits = c.follow.ensures.limits;
       refusal = IfErr-of c.from_residual.result _ _ c.from_residual.ensures.1 (shortage_of_memory _ _ c.in_err-from.ensures.memory);
     }
@@ -88,12 +80,6 @@ returns-in_err-progress g c =
       followed = IfOk-from_err c.from_residual-in_err-progress.result _ c.from_residual-in_err-progress.ensures.0;
       progress = IfOk-from_err c.from_residual-in_err-progress.result _ c.from_residual-in_err-progress.ensures.0;
       fit = IfOk-from_err c.from_residual-in_err-progress.result _ c.from_residual-in_err-progress.ensures.0;
-      led = let u = g.D.Interner.universe c.args.provider.now in
-          let old = c.args.self.now in
-          leads_read u old c.follow.new.self c.in_ok-from.from c.solvables.result.now.keys c.read_chosen.new.self c.requires.loaded
-          c.in_ok-from.ensures.following c.in_ok-from.ensures.followed c.solvables.ensures c.read_chosen.ensures.led
-          (drawn_or_assumed old.search (notes_of old).table (notes_of old).requirements c.requires.rounds.consistent c.requires.loaded.loaded)
-          (λ root encoding. positives_seen u root (notes_of old) encoding);
       limits = let mid = c.follow.ensures.limits in
           let kept = c.read_chosen.ensures.limits in
           record {

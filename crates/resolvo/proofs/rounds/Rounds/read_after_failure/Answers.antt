@@ -4,7 +4,6 @@ use Rattle.resolver_encoding.specs.declared.encoding.Encoding.{Encoding}
 use Rattle.resolver_encoding.specs.SoFar.{IsProgress}
 use Rattle.resolvo.specs.RoundStates.{notes_of}
 use Rattle.resolvo.proofs.GoingLemmas.{goes_searched, goes_trans}
-use Rattle.resolvo.proofs.LeadingLemmas.{leads_same, leads_trans}
 use Rattle.resolvo.proofs.RoundLemmas.{room_trans}
 use Rattle.std.proofs.lemmas.Result.{IfOk-from_err}
 use Rattle.resolver_encoding.proofs.RefusalLemmas.{IfErr-of}
@@ -20,7 +19,6 @@ returns g c =
       keeps = goes_searched u c.args.self.now mid c.decide_after_failure.ensures.same c.in_ok-decide_after_failure.ensures.turn;
       progress = ap (λ (e : Encoding g.row.N.Denot g.row.S.Denot). notes_in e) c.decide_after_failure.ensures.same.encoding;
       fit = λ none. absurd cc;
-      led = leads_same u c.args.self.now mid c.decide_after_failure.ensures.same.encoding;
       limits = c.decide_after_failure.ensures.limits;
       refusal = tt;
     }
@@ -38,8 +36,6 @@ returns-then-branch g c =
       keeps = goes_trans u old mid c.read.new.self c.requires.rounds.variables goes c.in_ok-progress.ensures.keeps;
       progress = rw c.decide_after_failure.ensures.same.encoding at progress;
       fit = λ _. c.in_ok-progress.ensures.fit;
-      led = leads_trans u old mid c.read.new.self c.requires.rounds.variables goes
-          (leads_same u old mid c.decide_after_failure.ensures.same.encoding) c.read.ensures.led;
       limits = room_trans old mid c.read.new.self c.decide_after_failure.ensures.limits c.read.ensures.limits;
       refusal = tt;
     }
@@ -52,26 +48,20 @@ returns-in_err-decide_after_failure g c =
       keeps = IfOk-from_err c.from_residual.result _ c.from_residual.ensures.0;
       progress = IfOk-from_err c.from_residual.result _ c.from_residual.ensures.0;
       fit = IfOk-from_err c.from_residual.result _ c.from_residual.ensures.0;
-      led = leads_same (g.D.Interner.universe c.args.provider.now) c.args.self.now c.decide_after_failure.new.self
-          c.decide_after_failure.ensures.same.encoding;
       limits = c.decide_after_failure.ensures.limits;
       refusal = IfErr-of c.from_residual.result _ _ c.from_residual.ensures.1 c.in_err-decide_after_failure.ensures.refusal;
     }
 
 pub returns-in_err-progress : goal.returns-in_err-progress
 returns-in_err-progress g c =
-    let u = g.D.Interner.universe c.args.provider.now in
     let old = c.args.self.now in
     let mid = c.decide_after_failure.new.self in
-    let goes = goes_searched u old mid c.decide_after_failure.ensures.same c.in_ok-decide_after_failure.ensures.turn in
     record {
       is_true = c.read.ensures.is_true;
       rounds = IfOk-from_err c.from_residual-in_err-progress.result _ c.from_residual-in_err-progress.ensures.0;
       keeps = IfOk-from_err c.from_residual-in_err-progress.result _ c.from_residual-in_err-progress.ensures.0;
       progress = IfOk-from_err c.from_residual-in_err-progress.result _ c.from_residual-in_err-progress.ensures.0;
       fit = IfOk-from_err c.from_residual-in_err-progress.result _ c.from_residual-in_err-progress.ensures.0;
-      led = leads_trans u old mid c.read.new.self c.requires.rounds.variables goes
-          (leads_same u old mid c.decide_after_failure.ensures.same.encoding) c.read.ensures.led;
       limits = room_trans old mid c.read.new.self c.decide_after_failure.ensures.limits c.read.ensures.limits;
       refusal = IfErr-of c.from_residual-in_err-progress.result _ _ c.from_residual-in_err-progress.ensures.1 c.in_err-progress.ensures.refusal;
     }

@@ -11,7 +11,6 @@ use Rattle.resolver_encoding.specs.declared.encoding.Encoding.{Encoding}
 use Rattle.resolvo.specs.ClauseSearches.{trail_of}
 use Rattle.resolvo.specs.RoundStates.{HasAssumed, notes_of}
 use Rattle.resolvo.proofs.SoftLemmas.{assumed_inside, ended_adds, refused_within, rounds_added, rounds_followed, still_assumed}
-use Rattle.resolvo.proofs.LeadingLemmas.{stays_paid}
 use Rattle.resolvo.proofs.RoundLemmas.{room_trans}
 use Rattle.std.proofs.lemmas.Result.{IfOk-from_err}
 use Rattle.resolver_encoding.proofs.RefusalLemmas.{IfErr-of, shortage_of_memory}
@@ -112,8 +111,6 @@ returns g c =
             free = ap (slot_of (trail_of c.retract.new.self)) (sym assumed.place) ∙ c.in_ok-retract.ensures.free;
             gains = subst GainsTo (sym c.in_ok-follow.ensures.followed.trail) c.in_ok-assume.ensures.gains;
           };
-      led = stays_paid (g.D.Interner.universe c.args.provider.now) c.args.self.now c.follow.new.self c.end_turn.new.self
-          (c.follow.ensures.same ∙ c.load.ensures.same.encoding) c.end_turn.ensures.adds;
       limits = let loaded = room_trans c.args.self.now (record c.args.self.now { encoding = c.end_turn.new.self }) c.load.new.self
           (record { notes = c.end_turn.ensures.limits; clauses = refl; learnt = refl }) c.load.ensures.limits in
           room_trans c.args.self.now (record c.load.new.self { search = c.assume.new.self }) c.follow.new.self
@@ -129,8 +126,6 @@ returns-in_err-end_turn g c =
       still = IfOk-from_err c.from_residual.result _ c.from_residual.ensures.0;
       counted = IfOk-from_err c.from_residual.result _ c.from_residual.ensures.0;
       refused = IfOk-from_err c.from_residual.result _ c.from_residual.ensures.0;
-      led = let e = c.end_turn.new.self in
-          stays_paid (g.D.Interner.universe c.args.provider.now) c.args.self.now (record c.args.self.now { encoding = e }) e refl c.end_turn.ensures.adds;
       limits = record { notes = c.end_turn.ensures.limits; clauses = refl; learnt = refl };
       refusal = IfErr-of c.from_residual.result _ _ c.from_residual.ensures.1 (full_stop (g.D.DependencyProvider.may_cancel c.args.provider.now) (record c.args.self.now { encoding = c.end_turn.new.self }) _ c.in_err-end_turn.ensures.refusal);
     }
@@ -143,8 +138,6 @@ returns-in_err-load g c =
       still = IfOk-from_err c.from_residual-in_err-load.result _ c.from_residual-in_err-load.ensures.0;
       counted = IfOk-from_err c.from_residual-in_err-load.result _ c.from_residual-in_err-load.ensures.0;
       refused = IfOk-from_err c.from_residual-in_err-load.result _ c.from_residual-in_err-load.ensures.0;
-      led = stays_paid (g.D.Interner.universe c.args.provider.now) c.args.self.now c.load.new.self c.end_turn.new.self c.load.ensures.same.encoding
-          c.end_turn.ensures.adds;
       limits = room_trans c.args.self.now (record c.args.self.now { encoding = c.end_turn.new.self }) c.load.new.self
           (record { notes = c.end_turn.ensures.limits; clauses = refl; learnt = refl }) c.load.ensures.limits;
       refusal = IfErr-of c.from_residual-in_err-load.result _ _ c.from_residual-in_err-load.ensures.1 (shortage_of_memory _ _ c.in_err-load.ensures.memory);
@@ -158,8 +151,6 @@ returns-in_err-retract g c =
       still = IfOk-from_err c.from_residual-in_err-retract.result _ c.from_residual-in_err-retract.ensures.0;
       counted = IfOk-from_err c.from_residual-in_err-retract.result _ c.from_residual-in_err-retract.ensures.0;
       refused = IfOk-from_err c.from_residual-in_err-retract.result _ c.from_residual-in_err-retract.ensures.0;
-      led = stays_paid (g.D.Interner.universe c.args.provider.now) c.args.self.now c.load.new.self c.end_turn.new.self c.load.ensures.same.encoding
-          c.end_turn.ensures.adds;
       limits = let loaded = room_trans c.args.self.now (record c.args.self.now { encoding = c.end_turn.new.self }) c.load.new.self
           (record { notes = c.end_turn.ensures.limits; clauses = refl; learnt = refl }) c.load.ensures.limits in
           record { notes = loaded.notes; clauses = loaded.clauses; learnt = loaded.learnt };
@@ -174,8 +165,6 @@ returns-in_err-assume g c =
       still = IfOk-from_err c.from_residual-in_err-assume.result _ c.from_residual-in_err-assume.ensures.0;
       counted = IfOk-from_err c.from_residual-in_err-assume.result _ c.from_residual-in_err-assume.ensures.0;
       refused = IfOk-from_err c.from_residual-in_err-assume.result _ c.from_residual-in_err-assume.ensures.0;
-      led = stays_paid (g.D.Interner.universe c.args.provider.now) c.args.self.now c.load.new.self c.end_turn.new.self c.load.ensures.same.encoding
-          c.end_turn.ensures.adds;
       limits = let loaded = room_trans c.args.self.now (record c.args.self.now { encoding = c.end_turn.new.self }) c.load.new.self
           (record { notes = c.end_turn.ensures.limits; clauses = refl; learnt = refl }) c.load.ensures.limits in
           record { notes = loaded.notes; clauses = loaded.clauses; learnt = loaded.learnt };
@@ -190,8 +179,6 @@ returns-in_err-follow g c =
       still = IfOk-from_err c.from_residual-in_err-follow.result _ c.from_residual-in_err-follow.ensures.0;
       counted = IfOk-from_err c.from_residual-in_err-follow.result _ c.from_residual-in_err-follow.ensures.0;
       refused = IfOk-from_err c.from_residual-in_err-follow.result _ c.from_residual-in_err-follow.ensures.0;
-      led = stays_paid (g.D.Interner.universe c.args.provider.now) c.args.self.now c.follow.new.self c.end_turn.new.self
-          (c.follow.ensures.same ∙ c.load.ensures.same.encoding) c.end_turn.ensures.adds;
       limits = let loaded = room_trans c.args.self.now (record c.args.self.now { encoding = c.end_turn.new.self }) c.load.new.self
           (record { notes = c.end_turn.ensures.limits; clauses = refl; learnt = refl }) c.load.ensures.limits in
           room_trans c.args.self.now (record c.load.new.self { search = c.assume.new.self }) c.follow.new.self

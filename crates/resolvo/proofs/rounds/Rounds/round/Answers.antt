@@ -2,7 +2,6 @@ use Rattle.std.proofs.Common.{◌≡◌}
 use Rattle.resolver_encoding.specs.SoFar.{IsProgress}
 use Rattle.resolvo.specs.RoundStates.{notes_of}
 use Rattle.resolvo.proofs.GoingLemmas.{goes_trans}
-use Rattle.resolvo.proofs.LeadingLemmas.{leads_trans}
 use Rattle.resolvo.proofs.RoundLemmas.{room_trans, round_later}
 use Rattle.std.proofs.lemmas.Result.{IfOk-from_err}
 use Rattle.resolver_encoding.proofs.RefusalLemmas.{IfErr-of}
@@ -23,14 +22,12 @@ returns-in_ok-round-in-Nothing g c =
       rounds = c.in_ok-round-in-Nothing.ensures.rounds;
       keeps = goes_trans u old mid new known goes c.in_ok-round-in-Nothing.ensures.keeps;
       round = round_later u old mid new c.in_ok-round-in-Nothing.round same c.in_ok-round-in-Nothing.ensures.round;
-      led = leads_trans u old mid new known goes c.read_after_failure.ensures.led c.search_and_read.ensures.led;
       limits = room_trans old mid new c.read_after_failure.ensures.limits c.search_and_read.ensures.limits;
       refusal = tt;
     }
 
 pub returns-in_err-round-in-Nothing : goal.returns-in_err-round-in-Nothing
 returns-in_err-round-in-Nothing g c =
-    let u = g.D.Interner.universe c.args.provider.now in
     let old = c.args.self.now in
     let mid = c.read_after_failure.new.self in
     let new = c.search_and_read.new.self in
@@ -39,8 +36,6 @@ returns-in_err-round-in-Nothing g c =
       rounds = IfOk-from_err c.from_residual-in_err-round-in-Nothing.result _ c.from_residual-in_err-round-in-Nothing.ensures.0;
       keeps = IfOk-from_err c.from_residual-in_err-round-in-Nothing.result _ c.from_residual-in_err-round-in-Nothing.ensures.0;
       round = IfOk-from_err c.from_residual-in_err-round-in-Nothing.result _ c.from_residual-in_err-round-in-Nothing.ensures.0;
-      led = leads_trans u old mid new c.requires.rounds.variables c.in_ok-read_after_failure.ensures.keeps c.read_after_failure.ensures.led
-          c.search_and_read.ensures.led;
       limits = room_trans old mid new c.read_after_failure.ensures.limits c.search_and_read.ensures.limits;
       refusal = IfErr-of c.from_residual-in_err-round-in-Nothing.result _ _ c.from_residual-in_err-round-in-Nothing.ensures.1
           c.in_err-round-in-Nothing.ensures.refusal;

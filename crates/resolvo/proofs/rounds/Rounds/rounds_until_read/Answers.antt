@@ -2,7 +2,6 @@ use Rattle.std.proofs.Common.{◌∙◌, refl}
 use Rattle.resolvo.specs.RoundStates.{IsRound}
 use Rattle.resolvo.proofs.RoundLemmas.{room_trans, room_same}
 use Rattle.resolvo.proofs.GoingLemmas.{goes_trans, goes_begin}
-use Rattle.resolvo.proofs.LeadingLemmas.{leads_trans, leads_same}
 use Rattle.std.proofs.lemmas.Result.{IfOk-from_err}
 use Rattle.resolver_encoding.proofs.RefusalLemmas.{IfErr-of}
 use Rattle.resolvo.proofs.rounds.Rounds.rounds_until_read.Goals as goal
@@ -22,8 +21,6 @@ returns-in-Last g c =
           last.1;
       read = tt;
       fit = tt;
-      led = leads_trans (g.D.Interner.universe c.args.provider.now) c.args.self.now c.rounds.self c.round.new.self c.requires.rounds.variables
-          c.rounds.invariant.keeps c.rounds.invariant.led c.round.ensures.led;
       limits = room_trans c.args.self.now c.rounds.self c.round.new.self c.rounds.invariant.room c.in_ok-found.ensures.limits;
       refusal = tt;
     }
@@ -43,8 +40,6 @@ returns-in-Read g c =
       fit = let round : IsRound (g.D.Interner.universe c.args.provider.now) c.rounds.self c.round.new.self c.in_ok-found.field-0 = c.in_ok-found.ensures.round in
           let read = rw c.in-Read.is at round in
           read.1;
-      led = leads_trans (g.D.Interner.universe c.args.provider.now) c.args.self.now c.rounds.self c.round.new.self c.requires.rounds.variables
-          c.rounds.invariant.keeps c.rounds.invariant.led c.round.ensures.led;
       limits = room_trans c.args.self.now c.rounds.self c.round.new.self c.rounds.invariant.room c.in_ok-found.ensures.limits;
       refusal = tt;
     }
@@ -58,8 +53,6 @@ rounds-preserved g c =
       rounds = c.in_ok-found.ensures.rounds;
       keeps = goes_trans (g.D.Interner.universe c.args.provider.now) c.args.self.now c.rounds.self c.round.new.self c.requires.rounds.variables
           c.rounds.invariant.keeps c.in_ok-found.ensures.keeps;
-      led = leads_trans (g.D.Interner.universe c.args.provider.now) c.args.self.now c.rounds.self c.round.new.self c.requires.rounds.variables
-          c.rounds.invariant.keeps c.rounds.invariant.led c.round.ensures.led;
       room = room_trans c.args.self.now c.rounds.self c.round.new.self c.rounds.invariant.room c.in_ok-found.ensures.limits;
       read = fired.0 ∙ c.rounds.invariant.read;
     }
@@ -74,8 +67,6 @@ returns-in_err-found g c =
       counted = IfOk-from_err c.from_residual.result _ c.from_residual.ensures.0;
       read = IfOk-from_err c.from_residual.result _ c.from_residual.ensures.0;
       fit = IfOk-from_err c.from_residual.result _ c.from_residual.ensures.0;
-      led = leads_trans (g.D.Interner.universe c.args.provider.now) c.args.self.now c.rounds.self c.round.new.self c.requires.rounds.variables
-          c.rounds.invariant.keeps c.rounds.invariant.led c.round.ensures.led;
       limits = room_trans c.args.self.now c.rounds.self c.round.new.self c.rounds.invariant.room c.round.ensures.limits;
       refusal = IfErr-of c.from_residual.result _ _ c.from_residual.ensures.1 c.in_err-found.ensures.refusal;
     }
@@ -88,7 +79,6 @@ rounds-init g c =
       is_true = c.requires.is_true;
       rounds = c.requires.rounds;
       keeps = goes_begin u self;
-      led = leads_same u self self refl;
       room = room_same self;
       read = refl;
     }

@@ -7,7 +7,6 @@ use Rattle.resolvo.specs.ClauseSearches.{OutcomeIs, base_of, numbers_of, trail_o
 use Rattle.resolvo.specs.RoundStates.{notes_of}
 use Rattle.resolvo.proofs.GoingLemmas.{all_clauses, answering, goes_searched, goes_trans, still_all}
 use Rattle.resolver_encoding.proofs.SoFarLemmas.{lawful_solvables}
-use Rattle.resolvo.proofs.LeadingLemmas.{leads_same, leads_trans}
 use Rattle.resolvo.proofs.RoundLemmas.{room_trans}
 use Rattle.std.proofs.lemmas.Result.{IfOk-from_err}
 use Rattle.resolver_encoding.proofs.RefusalLemmas.{IfErr-of}
@@ -24,7 +23,6 @@ returns-in-Contradiction g c =
           let outcome : OutcomeIs (notes_of mid).table (notes_of mid).requirements (trail_of mid.search) (base_of mid.search) c.in_ok-core.field-0 =
           c.in_ok-core.ensures.outcome in
           (rw c.in-Contradiction.is at outcome, all_clauses u mid c.in_ok-core.ensures.rounds c.in_ok-core.ensures.loaded);
-      led = leads_same (g.D.Interner.universe c.args.provider.now) c.args.self.now c.search.new.self c.search.ensures.same.encoding;
       limits = c.search.ensures.limits;
       refusal = tt;
     }
@@ -40,7 +38,6 @@ returns-in-Refused g c =
           let outcome : OutcomeIs (notes_of mid).table (notes_of mid).requirements (trail_of mid.search) (base_of mid.search) c.in_ok-core.field-0 =
           c.in_ok-core.ensures.outcome in
           (rw c.in-Refused.is at outcome, all_clauses u mid c.in_ok-core.ensures.rounds c.in_ok-core.ensures.loaded);
-      led = leads_same (g.D.Interner.universe c.args.provider.now) c.args.self.now c.search.new.self c.search.ensures.same.encoding;
       limits = c.search.ensures.limits;
       refusal = tt;
     }
@@ -72,12 +69,6 @@ returns-in-Nothing g c =
             still_all mid new (ap (λ (n : Notes g.row.N.Denot g.row.S.Denot). length n.kinds) same) followed.clauses followed.learnt
                 (all_clauses u mid c.in_ok-core.ensures.rounds up),
           );
-      led = let u = g.D.Interner.universe c.args.provider.now in
-          let old = c.args.self.now in
-          let mid = c.search.new.self in
-          leads_trans u old mid c.read.new.self c.requires.rounds.variables
-          (goes_searched u old mid c.search.ensures.same c.in_ok-core.ensures.turn)
-          (leads_same u old mid c.search.ensures.same.encoding) c.read.ensures.led;
       limits = room_trans c.args.self.now c.search.new.self c.read.new.self c.search.ensures.limits c.read.ensures.limits;
       refusal = tt;
     }
@@ -94,12 +85,6 @@ returns-in-Fired g c =
           c.in_ok-read-in-Finished.ensures.progress in
           let fired = rw c.in-Fired.is at progress in
           rw c.in_ok-core.ensures.same.encoding at fired;
-      led = let u = g.D.Interner.universe c.args.provider.now in
-          let old = c.args.self.now in
-          let mid = c.search.new.self in
-          leads_trans u old mid c.read.new.self c.requires.rounds.variables
-          (goes_searched u old mid c.search.ensures.same c.in_ok-core.ensures.turn)
-          (leads_same u old mid c.search.ensures.same.encoding) c.read.ensures.led;
       limits = room_trans c.args.self.now c.search.new.self c.read.new.self c.search.ensures.limits c.read.ensures.limits;
       refusal = tt;
     }
@@ -116,12 +101,6 @@ returns-in-Read g c =
           c.in_ok-read-in-Finished.ensures.progress in
           let read = rw c.in-Read.is at progress in
           (rw c.in_ok-core.ensures.same.encoding at read, c.in_ok-read-in-Finished.ensures.fit);
-      led = let u = g.D.Interner.universe c.args.provider.now in
-          let old = c.args.self.now in
-          let mid = c.search.new.self in
-          leads_trans u old mid c.read.new.self c.requires.rounds.variables
-          (goes_searched u old mid c.search.ensures.same c.in_ok-core.ensures.turn)
-          (leads_same u old mid c.search.ensures.same.encoding) c.read.ensures.led;
       limits = room_trans c.args.self.now c.search.new.self c.read.new.self c.search.ensures.limits c.read.ensures.limits;
       refusal = tt;
     }
@@ -133,7 +112,6 @@ returns-in_err-core g c =
       rounds = IfOk-from_err c.from_residual.result _ c.from_residual.ensures.0;
       keeps = IfOk-from_err c.from_residual.result _ c.from_residual.ensures.0;
       round = IfOk-from_err c.from_residual.result _ c.from_residual.ensures.0;
-      led = leads_same (g.D.Interner.universe c.args.provider.now) c.args.self.now c.search.new.self c.search.ensures.same.encoding;
       limits = c.search.ensures.limits;
       refusal = IfErr-of c.from_residual.result _ _ c.from_residual.ensures.1 c.in_err-core.ensures.refusal;
     }
@@ -145,12 +123,6 @@ returns-in_err-read-in-Finished g c =
       rounds = IfOk-from_err c.from_residual-in_err-read-in-Finished.result _ c.from_residual-in_err-read-in-Finished.ensures.0;
       keeps = IfOk-from_err c.from_residual-in_err-read-in-Finished.result _ c.from_residual-in_err-read-in-Finished.ensures.0;
       round = IfOk-from_err c.from_residual-in_err-read-in-Finished.result _ c.from_residual-in_err-read-in-Finished.ensures.0;
-      led = let u = g.D.Interner.universe c.args.provider.now in
-          let old = c.args.self.now in
-          let mid = c.search.new.self in
-          leads_trans u old mid c.read.new.self c.requires.rounds.variables
-          (goes_searched u old mid c.search.ensures.same c.in_ok-core.ensures.turn)
-          (leads_same u old mid c.search.ensures.same.encoding) c.read.ensures.led;
       limits = room_trans c.args.self.now c.search.new.self c.read.new.self c.search.ensures.limits c.read.ensures.limits;
       refusal = IfErr-of c.from_residual-in_err-read-in-Finished.result _ _ c.from_residual-in_err-read-in-Finished.ensures.1 c.in_err-read-in-Finished.ensures.refusal;
     }

@@ -3,10 +3,9 @@ use Rattle.std.specs.List.{flat_map}
 use Rattle.resolver_clause_store.specs.SoftRun.{options, own_packages}
 use Rattle.resolver_clause_store.specs.declared.SoftRequirement.{SoftRequirement}
 use Rattle.resolver_clause_store.specs.declared.SoftRequirement.TheVariants.{Solvable}
-use Rattle.resolvo.specs.RoundStates.{IsBetween, IsLedBy}
+use Rattle.resolvo.specs.RoundStates.{IsBetween}
 use Rattle.resolvo.proofs.SoftTurnLemmas.{between_solvable, gathered_last, standing_for}
 use Rattle.resolver_clause_store.proofs.ListLemmas.{Contains-here as here}
-use Rattle.resolvo.proofs.LeadingLemmas.{led_wider}
 use Rattle.std.proofs.lemmas.Result.{IfOk-from_err}
 use Rattle.resolver_encoding.proofs.RefusalLemmas.{IfErr-of}
 use Rattle.resolvo.proofs.rounds.Rounds.soft_turn.Goals as goal
@@ -26,15 +25,6 @@ returns-in_ok-turn-in-Solvable g c =
           subst Between (sym c.in-Solvable.is) (between_solvable u root done s c.args.self.now c.turn.new.self _ b
           (c.in_ok-turn-in-Solvable.ensures.turned root b.taken b.refused (flat_map (options u) (done ++ r ∷ [])) (flat_map (own_packages u) (done ++ r ∷ []))
           (gathered_last (options u) done r s (here s [])) (standing_for u root done r b.taken b.refused c.args.self.now b.standing)));
-      led = λ root done b led.
-          let u = g.D.Interner.universe c.args.provider.now in
-          let r : SoftRequirement g.row.S.Denot = Solvable c.in-Solvable.solvable in
-          let Led : SoftRequirement g.row.S.Denot → Type 0 = λ q. IsLedBy u root (done ++ q ∷ []) c.turn.new.self in
-          subst Led (sym c.in-Solvable.is) (record {
-            all = c.turn.ensures.led root b.taken b.refused (flat_map (options u) (done ++ r ∷ [])) (flat_map (own_packages u) (done ++ r ∷ []))
-                (gathered_last (options u) done r) (standing_for u root done r b.taken b.refused c.args.self.now b.standing)
-                (led_wider u root done r c.args.self.now led).all;
-          });
       limits = c.turn.ensures.limits;
       refusal = tt;
     }
@@ -50,10 +40,6 @@ returns-in_ok-version_set_turn-in-Matching g c =
           let u = g.D.Interner.universe c.args.provider.now in
           let Between : SoftRequirement g.row.S.Denot → Type 0 = λ q. IsBetween u root (done ++ q ∷ []) c.version_set_turn.new.self in
           subst Between (sym c.in-Matching.is) (c.in_ok-version_set_turn-in-Matching.ensures.between root done b);
-      led = λ root done b led.
-          let u = g.D.Interner.universe c.args.provider.now in
-          let Led : SoftRequirement g.row.S.Denot → Type 0 = λ q. IsLedBy u root (done ++ q ∷ []) c.version_set_turn.new.self in
-          subst Led (sym c.in-Matching.is) (c.version_set_turn.ensures.led root done b led);
       limits = c.version_set_turn.ensures.limits;
       refusal = tt;
     }
@@ -66,15 +52,6 @@ returns-in_err-turn-in-Solvable g c =
       still = IfOk-from_err c.from_residual.result _ c.from_residual.ensures.0;
       counted = IfOk-from_err c.from_residual.result _ c.from_residual.ensures.0;
       between = IfOk-from_err c.from_residual.result _ c.from_residual.ensures.0;
-      led = λ root done b led.
-          let u = g.D.Interner.universe c.args.provider.now in
-          let r : SoftRequirement g.row.S.Denot = Solvable c.in-Solvable.solvable in
-          let Led : SoftRequirement g.row.S.Denot → Type 0 = λ q. IsLedBy u root (done ++ q ∷ []) c.turn.new.self in
-          subst Led (sym c.in-Solvable.is) (record {
-            all = c.turn.ensures.led root b.taken b.refused (flat_map (options u) (done ++ r ∷ [])) (flat_map (own_packages u) (done ++ r ∷ []))
-                (gathered_last (options u) done r) (standing_for u root done r b.taken b.refused c.args.self.now b.standing)
-                (led_wider u root done r c.args.self.now led).all;
-          });
       limits = c.turn.ensures.limits;
       refusal = IfErr-of c.from_residual.result _ _ c.from_residual.ensures.1 c.in_err-turn-in-Solvable.ensures.refusal;
     }
@@ -87,10 +64,6 @@ returns-in_err-version_set_turn-in-Matching g c =
       still = IfOk-from_err c.from_residual-in_err-version_set_turn-in-Matching.result _ c.from_residual-in_err-version_set_turn-in-Matching.ensures.0;
       counted = IfOk-from_err c.from_residual-in_err-version_set_turn-in-Matching.result _ c.from_residual-in_err-version_set_turn-in-Matching.ensures.0;
       between = IfOk-from_err c.from_residual-in_err-version_set_turn-in-Matching.result _ c.from_residual-in_err-version_set_turn-in-Matching.ensures.0;
-      led = λ root done b led.
-          let u = g.D.Interner.universe c.args.provider.now in
-          let Led : SoftRequirement g.row.S.Denot → Type 0 = λ q. IsLedBy u root (done ++ q ∷ []) c.version_set_turn.new.self in
-          subst Led (sym c.in-Matching.is) (c.version_set_turn.ensures.led root done b led);
       limits = c.version_set_turn.ensures.limits;
       refusal = IfErr-of c.from_residual-in_err-version_set_turn-in-Matching.result _ _ c.from_residual-in_err-version_set_turn-in-Matching.ensures.1 c.in_err-version_set_turn-in-Matching.ensures.refusal;
     }

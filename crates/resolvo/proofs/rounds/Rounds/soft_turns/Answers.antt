@@ -1,6 +1,5 @@
-use Rattle.std.specs.Prelude.{◌++◌, map}
+use Rattle.std.specs.Prelude.{map}
 use Rattle.resolver_clause_store.specs.declared.SoftRequirement.TheVariants.{Solvable}
-use Rattle.resolvo.specs.Problems.{all_given, first_given}
 use Rattle.resolvo.proofs.RoundLemmas.{room_trans}
 use Rattle.std.proofs.lemmas.Result.{IfOk-from_err}
 use Rattle.resolver_encoding.proofs.RefusalLemmas.{IfErr-of}
@@ -15,10 +14,6 @@ returns g c =
       between = λ root b.
           let w = c.in_ok-given_turns.ensures.between root b in
           (w.0, w.1, c.in_ok-list_turns.ensures.between root (map Solvable w.0) w.2);
-      led = λ root b led.
-          let w = c.in_ok-given_turns.ensures.over root b led in
-          let x = c.list_turns.ensures.led root (map Solvable w.0) w.2 w.3 in
-          (map Solvable w.0 ++ x.0, all_given w.0 x.0 w.1 x.1, x.2);
       limits = room_trans c.args.self.now c.given_turns.new.self c.list_turns.new.self c.given_turns.ensures.limits c.list_turns.ensures.limits;
       refusal = tt;
     }
@@ -30,9 +25,6 @@ returns-in_err-given_turns g c =
       rounds = IfOk-from_err c.from_residual.result _ c.from_residual.ensures.0;
       counted = IfOk-from_err c.from_residual.result _ c.from_residual.ensures.0;
       between = IfOk-from_err c.from_residual.result _ c.from_residual.ensures.0;
-      led = λ root b led.
-          let w = c.given_turns.ensures.led root b led in
-          (map Solvable w.0, first_given w.0 w.1, w.2);
       limits = c.given_turns.ensures.limits;
       refusal = IfErr-of c.from_residual.result _ _ c.from_residual.ensures.1 c.in_err-given_turns.ensures.refusal;
     }
@@ -44,10 +36,6 @@ returns-in_err-list_turns g c =
       rounds = IfOk-from_err c.from_residual-in_err-list_turns.result _ c.from_residual-in_err-list_turns.ensures.0;
       counted = IfOk-from_err c.from_residual-in_err-list_turns.result _ c.from_residual-in_err-list_turns.ensures.0;
       between = IfOk-from_err c.from_residual-in_err-list_turns.result _ c.from_residual-in_err-list_turns.ensures.0;
-      led = λ root b led.
-          let w = c.in_ok-given_turns.ensures.over root b led in
-          let x = c.list_turns.ensures.led root (map Solvable w.0) w.2 w.3 in
-          (map Solvable w.0 ++ x.0, all_given w.0 x.0 w.1 x.1, x.2);
       limits = room_trans c.args.self.now c.given_turns.new.self c.list_turns.new.self c.given_turns.ensures.limits c.list_turns.ensures.limits;
       refusal = IfErr-of c.from_residual-in_err-list_turns.result _ _ c.from_residual-in_err-list_turns.ensures.1 c.in_err-list_turns.ensures.refusal;
     }

@@ -1,13 +1,13 @@
-use Rattle.std.proofs.Common.{[], ◌∷◌, ◌++◌, List, subst, sym}
+use Rattle.std.proofs.Common.{[], ◌∷◌, List, subst, sym}
 use Rattle.std.specs.Prelude.{map}
 use Rattle.std.proofs.lemmas.List.{map-append}
 use Rattle.resolver_clause_store.specs.declared.SoftRequirement.{SoftRequirement}
 use Rattle.resolver_clause_store.specs.declared.SoftRequirement.TheVariants.{Solvable}
-use Rattle.resolvo.specs.RoundStates.{IsBetween, IsLedBy}
+use Rattle.resolvo.specs.RoundStates.{IsBetween}
 use Rattle.resolvo.proofs.RoundLemmas.{room_same, room_trans}
-use Rattle.resolvo.proofs.LeadingLemmas.{gives_all, gives_more, gives_these}
 use Rattle.std.proofs.lemmas.Result.{IfOk-from_err}
 use Rattle.resolver_encoding.proofs.RefusalLemmas.{IfErr-of}
+use Rattle.resolvo.proofs.SoftTurnLemmas.{gives_all}
 use Rattle.resolvo.proofs.rounds.Rounds.solvable_turns.Goals as goal
 
 pub returns : goal.returns
@@ -23,21 +23,6 @@ returns g c =
             c.loop-solvable.yielded c.loop-solvable.yielded_by c.next.result _ c.in-None.is c.next.ensures.steps,
         c.loop-solvable.invariant.between root b,
       );
-      over = λ root b led.
-          let it = c.loop-solvable.invariant in (
-            c.loop-solvable.yielded,
-            gives_all g.I.Iterator.next_gives c.args.soft c.into_iter-solvable-iterator.result _ c.into_iter-solvable-iterator.ensures.into_iter_gives
-                c.loop-solvable.yielded c.loop-solvable.yielded_by c.next.result _ c.in-None.is c.next.ensures.steps,
-            it.between root b,
-            it.led root b led,
-          );
-      led = λ root b led.
-          let xs = c.loop-solvable.yielded in (
-            xs,
-            gives_these g.I.Iterator.next_gives c.args.soft c.into_iter-solvable-iterator.result _ c.into_iter-solvable-iterator.ensures.into_iter_gives
-                xs c.loop-solvable.yielded_by,
-            c.loop-solvable.invariant.led root b led,
-          );
       limits = c.loop-solvable.invariant.room;
       refusal = tt;
     }
@@ -57,11 +42,6 @@ loop-solvable-preserved g c =
           λ list. IsBetween (g.D.Interner.universe c.args.provider.now) root list c.soft_turn.new.self in
           subst Between (sym (map-append Solvable c.loop-solvable.yielded (s ∷ [])))
           (c.in_ok-soft_turn.ensures.between root (map Solvable c.loop-solvable.yielded) (before.between root b));
-      led = λ root b led.
-          let Led : List (SoftRequirement g.row.S.Denot) → Type 0 =
-          λ list. IsLedBy (g.D.Interner.universe c.args.provider.now) root list c.soft_turn.new.self in
-          subst Led (sym (map-append Solvable c.loop-solvable.yielded (s ∷ [])))
-          (c.soft_turn.ensures.led root (map Solvable c.loop-solvable.yielded) (before.between root b) (before.led root b led));
     }
 
 pub returns-in_err-soft_turn : goal.returns-in_err-soft_turn
@@ -72,17 +52,6 @@ returns-in_err-soft_turn g c =
       still = IfOk-from_err c.from_residual.result _ c.from_residual.ensures.0;
       counted = IfOk-from_err c.from_residual.result _ c.from_residual.ensures.0;
       between = IfOk-from_err c.from_residual.result _ c.from_residual.ensures.0;
-      over = IfOk-from_err c.from_residual.result _ c.from_residual.ensures.0;
-      led = λ root b led.
-          let before = c.loop-solvable.invariant in
-          let s = c.in-Some.solvable in
-          let xs = c.loop-solvable.yielded in
-          let Led : List (SoftRequirement g.row.S.Denot) → Type 0 = λ list. IsLedBy (g.D.Interner.universe c.args.provider.now) root list c.soft_turn.new.self in (
-            xs ++ s ∷ [],
-            gives_more g.I.Iterator.next_gives c.args.soft c.into_iter-solvable-iterator.result _ c.into_iter-solvable-iterator.ensures.into_iter_gives
-                xs c.loop-solvable.yielded_by s c.next.result _ c.in-Some.is c.next.ensures.steps,
-            subst Led (sym (map-append Solvable xs (s ∷ []))) (c.soft_turn.ensures.led root (map Solvable xs) (before.between root b) (before.led root b led)),
-          );
       limits = room_trans c.args.self.now c.loop-solvable.self c.soft_turn.new.self c.loop-solvable.invariant.room c.soft_turn.ensures.limits;
       refusal = IfErr-of c.from_residual.result _ _ c.from_residual.ensures.1 c.in_err-soft_turn.ensures.refusal;
     }
@@ -95,7 +64,6 @@ loop-solvable-init g c = record {
   counted = c.requires.counted;
   room = room_same c.args.self.now;
   between = λ root b. b;
-  led = λ root b led. led;
 }
 
 pub soft_turn-requires-clause-counted : goal.soft_turn-requires-clause-counted

@@ -8,7 +8,6 @@ use Rattle.resolvo.proofs.SoftTurnLemmas.{none_tried, tried_last, tried_more}
 use Rattle.std.proofs.lemmas.Result.{IfOk-from_err}
 use Rattle.resolver_encoding.proofs.RefusalLemmas.{IfErr-of}
 use Rattle.resolvo.proofs.rounds.Rounds.take_first.Goals as goal
-use Rattle.resolver_encoding.proofs.LedLemmas.{one_within}
 
 pub loop-candidate-init : goal.loop-candidate-init
 loop-candidate-init g c = record {
@@ -19,7 +18,6 @@ loop-candidate-init g c = record {
   room = room_same c.args.self.now;
   turned = λ root taken refused seeds packages within b. none_tried
       (g.D.Interner.universe c.args.provider.now) root taken seeds packages c.args.self.now refused b;
-  led = λ root taken refused seeds packages within b led. led;
 }
 
 pub returns-then-branch : goal.returns-then-branch
@@ -41,13 +39,6 @@ returns-then-branch g c =
           tried_last u root taken seeds packages c.args.self.now
           (take c.loop-candidate.candidate-index c.args.candidates.now) mid new s h asked c.args.candidates.now listed c.requires.none
           (subst Turned c.if-branch.true (c.in_ok-turn.ensures.turned root h.taken_now h.refused_now seeds packages (within s listed) h.standing));
-      led = λ root taken refused seeds packages within b led.
-          let s = c.candidate-item.result in
-          let before = c.loop-candidate.invariant in
-          let h = before.turned root taken refused seeds packages within b in
-          let listed = Contains-item c.args.candidates.now c.loop-candidate.candidate-index s (omega arith) c.candidate-item.is in
-          c.turn.ensures.led root h.taken_now h.refused_now seeds packages (one_within s seeds (within s listed)) h.standing
-          (before.led root taken refused seeds packages within b led);
       limits = room_trans c.args.self.now c.loop-candidate.self c.turn.new.self c.loop-candidate.invariant.room c.turn.ensures.limits;
       refusal = tt;
     }
@@ -77,11 +68,6 @@ loop-candidate-preserved g c =
           tried_more u root taken seeds packages c.args.self.now (take i all) mid new s h asked (take (i + 1) all)
           (subst Cases (sym more) (λ t k. Contains-push_cases (take i all) s t k))
           (subst Turned c.if-branch.false (c.in_ok-turn.ensures.turned root h.taken_now h.refused_now seeds packages (within s listed) h.standing));
-      led = λ root taken refused seeds packages within b led.
-          let h = before.turned root taken refused seeds packages within b in
-          let listed = Contains-item all i s (omega arith) c.candidate-item.is in
-          c.turn.ensures.led root h.taken_now h.refused_now seeds packages (one_within s seeds (within s listed)) h.standing
-          (before.led root taken refused seeds packages within b led);
     }
 
 pub returns : goal.returns
@@ -96,7 +82,6 @@ returns g c =
           let all = c.args.candidates.now in
           let Turned : List g.row.S.Denot → Type 0 = λ list. HaveTurned u root taken seeds packages list c.args.self.now c.loop-candidate.self false in
           subst Turned (take_all c.loop-candidate.candidate-index all (omega arith)) (c.loop-candidate.invariant.turned root taken refused seeds packages within b);
-      led = c.loop-candidate.invariant.led;
       limits = c.loop-candidate.invariant.room;
       refusal = tt;
     }
@@ -109,13 +94,6 @@ returns-in_err-turn g c =
       still = IfOk-from_err c.from_residual.result _ c.from_residual.ensures.0;
       counted = IfOk-from_err c.from_residual.result _ c.from_residual.ensures.0;
       turned = IfOk-from_err c.from_residual.result _ c.from_residual.ensures.0;
-      led = λ root taken refused seeds packages within b led.
-          let s = c.candidate-item.result in
-          let before = c.loop-candidate.invariant in
-          let h = before.turned root taken refused seeds packages within b in
-          let listed = Contains-item c.args.candidates.now c.loop-candidate.candidate-index s (omega arith) c.candidate-item.is in
-          c.turn.ensures.led root h.taken_now h.refused_now seeds packages (one_within s seeds (within s listed)) h.standing
-          (before.led root taken refused seeds packages within b led);
       limits = room_trans c.args.self.now c.loop-candidate.self c.turn.new.self c.loop-candidate.invariant.room c.turn.ensures.limits;
       refusal = IfErr-of c.from_residual.result _ _ c.from_residual.ensures.1 c.in_err-turn.ensures.refusal;
     }

@@ -2,7 +2,7 @@ use Rattle.std.proofs.Common.{List, false, take}
 use Rattle.resolver_clause_store.specs.Caches.{IsTrueCache}
 use Rattle.resolver_clause_store.specs.Lists.{IsWithin}
 use Rattle.resolver_clause_store.specs.Universe.{Demands}
-use Rattle.resolvo.specs.RoundStates.{AreRounds, HasAllClauses, HaveTurned, IsStanding, IsStill, KeepsRoom, LeadsTurns}
+use Rattle.resolvo.specs.RoundStates.{AreRounds, HasAllClauses, HaveTurned, IsStanding, IsStill, KeepsRoom}
 use Rattle.resolvo.proofs.rounds.Rounds.take_first.Given as goal
 
 abbrev pub invariant-loop-candidate : goal.invariant-loop-candidate
@@ -15,5 +15,4 @@ invariant-loop-candidate g l = record {
   turned : (root : Demands) (taken refused seeds : List g.row.S.Denot) (packages : List g.row.N.Denot) → IsWithin l.candidates seeds →
       IsStanding (g.D.Interner.universe l.provider) root taken refused seeds packages l.fn.self →
       HaveTurned (g.D.Interner.universe l.provider) root taken seeds packages (take l.candidate-index l.candidates) l.fn.self l.self false;
-  led : LeadsTurns (g.D.Interner.universe l.provider) l.candidates l.fn.self l.self;
 }

@@ -1,4 +1,4 @@
-use Rattle.std.proofs.Common.{[], ap, arith, Some, subst, sym, ◌<◌, ◌∙◌, ◌≡◌, refl}
+use Rattle.std.proofs.Common.{ap, arith, Some, subst, sym, ◌<◌, ◌∙◌, ◌≡◌, refl}
 use Rattle.std.specs.Prelude.{Contains, length, slice_get}
 use Rattle.std.proofs.lemmas.Option.{slice_get_within}
 use Rattle.resolver_clause_store.specs.TrailView.{slot_of, variable_count}
@@ -10,8 +10,6 @@ use Rattle.resolver_encoding.specs.declared.encoding.Encoding.{Encoding}
 use Rattle.resolvo.specs.RoundStates.{notes_of}
 use Rattle.resolvo.proofs.SoftLemmas.{registered_adds, rounds_added, skipped, standing_loaded, standing_registered, still_added, turned_from}
 use Rattle.resolver_encoding.proofs.SoFarLemmas.{lawful_solvables}
-use Rattle.resolver_clause_store.proofs.ListLemmas.{Contains-here as here}
-use Rattle.resolvo.proofs.LeadingLemmas.{led_same, led_seed, standing_seed}
 use Rattle.resolvo.proofs.RoundLemmas.{room_trans}
 use Rattle.std.proofs.lemmas.Result.{IfOk-from_err}
 use Rattle.resolver_encoding.proofs.RefusalLemmas.{IfErr-of, shortage_of_memory}
@@ -74,11 +72,6 @@ returns-in-Some g c =
           (c.in_ok-load.ensures.still (still_added u old e c.requires.rounds registered.origins c.requires.still))
           (subst Stands (sym same.encoding) c.in_ok-variable.ensures.variable)
           (subst At c.trail.ensures (sym c.slot.ensures ∙ c.in-Some.is)) loaded);
-      led = λ root taken refused seeds packages within b led.
-          let u = g.D.Interner.universe c.args.provider.now in
-          let s = c.args.solvable in
-          led_same u root seeds packages c.register.new.self c.load.new.self.encoding c.load.ensures.same.encoding
-          (led_seed u root taken refused seeds packages s c.args.self.now c.register.new.self (within s (here s [])) b c.register.ensures.brings led);
       limits = room_trans c.args.self.now (record c.args.self.now { encoding = c.register.new.self }) c.load.new.self
           (record { notes = c.register.ensures.limits; clauses = refl; learnt = refl }) c.load.ensures.limits;
       refusal = tt;
@@ -107,21 +100,6 @@ returns-in_ok-is_chosen-in-None g c =
           turned_from u root taken refused seeds packages s old mid _ _ (ap chosen_in same.chosen) (ap (λ x. (notes_in x).exempt) same.encoding ∙ registered.exempt)
           (ap (λ x. (notes_in x).asked) same.encoding ∙ registered.asked)
           (c.in_ok-is_chosen-in-None.ensures.turned root taken refused seeds packages (subst Seen (sym same.encoding) registered.here) seed loaded);
-      led = λ root taken refused seeds packages within b led.
-          let u = g.D.Interner.universe c.args.provider.now in
-          let s = c.args.solvable in
-          let old = c.args.self.now in
-          let e = c.register.new.self in
-          let mid = c.load.new.self in
-          let seed = within s (here s []) in
-          let registered = c.in_ok-variable.ensures.registered in
-          let same = c.load.ensures.same in
-          let Seen : Encoding g.row.N.Denot g.row.S.Denot → Type 0 = λ x. Contains (notes_in x).seen s in
-          c.attempt.ensures.led (subst Seen (sym same.encoding) registered.here) root taken refused seeds packages within
-          (standing_seed u root taken refused seeds packages s old e mid c.requires.rounds c.register.ensures.bounded registered same
-          c.in_ok-load.ensures.turn seed b)
-          (led_same u root seeds packages e mid.encoding same.encoding
-          (led_seed u root taken refused seeds packages s old e seed b c.register.ensures.brings led));
       limits = room_trans c.args.self.now c.load.new.self c.attempt.new.self
           (room_trans c.args.self.now (record c.args.self.now { encoding = c.register.new.self }) c.load.new.self
           (record { notes = c.register.ensures.limits; clauses = refl; learnt = refl }) c.load.ensures.limits) c.attempt.ensures.limits;
@@ -136,10 +114,6 @@ returns-in_err-variable g c =
       still = IfOk-from_err c.from_residual.result _ c.from_residual.ensures.0;
       counted = IfOk-from_err c.from_residual.result _ c.from_residual.ensures.0;
       turned = IfOk-from_err c.from_residual.result _ c.from_residual.ensures.0;
-      led = λ root taken refused seeds packages within b led.
-          let s = c.args.solvable in
-          led_seed (g.D.Interner.universe c.args.provider.now) root taken refused seeds packages s c.args.self.now c.register.new.self
-          (within s (here s [])) b c.register.ensures.brings led;
       limits = record { notes = c.register.ensures.limits; clauses = refl; learnt = refl };
       refusal = IfErr-of c.from_residual.result _ _ c.from_residual.ensures.1 (full_shortage (record c.args.self.now { encoding = c.register.new.self }) _ c.in_err-variable.ensures.refusal);
     }
@@ -152,11 +126,6 @@ returns-in_err-load g c =
       still = IfOk-from_err c.from_residual-in_err-load.result _ c.from_residual-in_err-load.ensures.0;
       counted = IfOk-from_err c.from_residual-in_err-load.result _ c.from_residual-in_err-load.ensures.0;
       turned = IfOk-from_err c.from_residual-in_err-load.result _ c.from_residual-in_err-load.ensures.0;
-      led = λ root taken refused seeds packages within b led.
-          let u = g.D.Interner.universe c.args.provider.now in
-          let s = c.args.solvable in
-          led_same u root seeds packages c.register.new.self c.load.new.self.encoding c.load.ensures.same.encoding
-          (led_seed u root taken refused seeds packages s c.args.self.now c.register.new.self (within s (here s [])) b c.register.ensures.brings led);
       limits = room_trans c.args.self.now (record c.args.self.now { encoding = c.register.new.self }) c.load.new.self
           (record { notes = c.register.ensures.limits; clauses = refl; learnt = refl }) c.load.ensures.limits;
       refusal = IfErr-of c.from_residual-in_err-load.result _ _ c.from_residual-in_err-load.ensures.1 (shortage_of_memory _ _ c.in_err-load.ensures.memory);
@@ -170,21 +139,6 @@ returns-in_err-is_chosen-in-None g c =
       still = IfOk-from_err c.from_residual-in_err-is_chosen-in-None.result _ c.from_residual-in_err-is_chosen-in-None.ensures.0;
       counted = IfOk-from_err c.from_residual-in_err-is_chosen-in-None.result _ c.from_residual-in_err-is_chosen-in-None.ensures.0;
       turned = IfOk-from_err c.from_residual-in_err-is_chosen-in-None.result _ c.from_residual-in_err-is_chosen-in-None.ensures.0;
-      led = λ root taken refused seeds packages within b led.
-          let u = g.D.Interner.universe c.args.provider.now in
-          let s = c.args.solvable in
-          let old = c.args.self.now in
-          let e = c.register.new.self in
-          let mid = c.load.new.self in
-          let seed = within s (here s []) in
-          let registered = c.in_ok-variable.ensures.registered in
-          let same = c.load.ensures.same in
-          let Seen : Encoding g.row.N.Denot g.row.S.Denot → Type 0 = λ x. Contains (notes_in x).seen s in
-          c.attempt.ensures.led (subst Seen (sym same.encoding) registered.here) root taken refused seeds packages within
-          (standing_seed u root taken refused seeds packages s old e mid c.requires.rounds c.register.ensures.bounded registered same
-          c.in_ok-load.ensures.turn seed b)
-          (led_same u root seeds packages e mid.encoding same.encoding
-          (led_seed u root taken refused seeds packages s old e seed b c.register.ensures.brings led));
       limits = room_trans c.args.self.now c.load.new.self c.attempt.new.self
           (room_trans c.args.self.now (record c.args.self.now { encoding = c.register.new.self }) c.load.new.self
           (record { notes = c.register.ensures.limits; clauses = refl; learnt = refl }) c.load.ensures.limits) c.attempt.ensures.limits;

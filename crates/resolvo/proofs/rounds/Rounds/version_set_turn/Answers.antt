@@ -11,7 +11,6 @@ use Rattle.resolvo.specs.RoundStates.{chosen_of, notes_of}
 use Rattle.resolvo.proofs.SoftTurnLemmas.{between_met, between_tried, gathered_last, sorted_has, standing_for}
 use Rattle.resolver_clause_store.proofs.ListLemmas.{Contains-here as here}
 use Rattle.resolver_encoding.proofs.SoFarLemmas.{lawful_solvables}
-use Rattle.resolvo.proofs.LeadingLemmas.{led_wider}
 use Rattle.resolvo.proofs.RoundLemmas.{room_same, room_trans}
 use Rattle.std.proofs.lemmas.Result.{IfOk-from_err}
 use Rattle.resolver_encoding.proofs.RefusalLemmas.{IfErr-of, IfErr-stop}
@@ -39,8 +38,6 @@ returns-then-has_any g c =
             in_first = sorted_matches u laws lawful.same_solvable v m.shared (subst Has same m.in_first);
             in_second = subst Has c.solvables.ensures m.in_second;
           }) b;
-      led = λ root done b led.
-          led_wider (g.D.Interner.universe c.args.provider.now) root done (Matching c.args.version_set) c.args.self.now led;
       limits = room_same c.args.self.now;
       refusal = tt;
     }
@@ -106,26 +103,6 @@ returns g c =
           (alone.asked.all (u.version_set_name v) refl)
           (c.in_ok-take_first.ensures.turned root b.taken b.refused seeds packages (λ s h. gathered_last (options u) done r s (match s h))
           (c.in_ok-ask.ensures.standing root b.taken b.refused seeds packages own (standing_for u root done r b.taken b.refused old b.standing)));
-      led = λ root done b led.
-          let u = g.D.Interner.universe c.args.provider.now in
-          let v = c.args.version_set in
-          let r : SoftRequirement g.row.S.Denot = Matching v in
-          let old = c.args.self.now in
-          let seeds : List g.row.S.Denot = flat_map (options u) (done ++ r ∷ []) in
-          let packages : List g.row.N.Denot = flat_map (own_packages u) (done ++ r ∷ []) in
-          let own : Contains packages (u.version_set_name v) = gathered_last (own_packages u) done r (u.version_set_name v) (here (u.version_set_name v) []) in
-          let standing = standing_for u root done r b.taken b.refused old b.standing in
-          let asked = c.ask.ensures.led root b.taken b.refused seeds packages own standing (led_wider u root done r old led).all in
-          let laws = g.met.D.DependencyProvider.lawful_packages c.args.provider.now in
-          let lawful = lawful_solvables u g.S.PartialEq.eq (g.met.D.Interner.lawful_ids c.args.provider.now)
-          (g.met.D.Interner.solvables_compare c.args.provider.now) g.met.D.Interner.solvables_are_values in
-          let same : c.deref-2.result.now ≡ sorted_candidates u v = c.deref-2.ensures.value ∙ c.in_ok-candidates.ensures.value in
-          let within : IsWithin c.deref-2.result.now seeds = λ s h. let Has : List g.row.S.Denot → Type 0 = λ list. Contains list s in
-          gathered_last (options u) done r s (sorted_matches u laws lawful.same_solvable v s (subst Has same h)) in
-          record {
-            all = c.take_first.ensures.led root b.taken b.refused seeds packages within
-                (c.in_ok-ask.ensures.standing root b.taken b.refused seeds packages own standing) asked;
-          };
       limits = room_trans c.args.self.now c.ask.new.self c.take_first.new.self c.ask.ensures.limits c.take_first.ensures.limits;
       refusal = tt;
     }
@@ -138,8 +115,6 @@ returns-in_err-candidates g c =
       still = IfOk-from_err c.from_residual.result _ c.from_residual.ensures.0;
       counted = IfOk-from_err c.from_residual.result _ c.from_residual.ensures.0;
       between = IfOk-from_err c.from_residual.result _ c.from_residual.ensures.0;
-      led = λ root done b led.
-          led_wider (g.D.Interner.universe c.args.provider.now) root done (Matching c.args.version_set) c.args.self.now led;
       limits = room_same c.args.self.now;
       refusal = IfErr-stop c.from_residual.result (g.D.DependencyProvider.may_cancel c.args.provider.now) _ _ c.from_residual.ensures.1 c.in_err-candidates.ensures.refusal;
     }
@@ -152,17 +127,6 @@ returns-in_err-ask g c =
       still = IfOk-from_err c.from_residual-in_err-ask.result _ c.from_residual-in_err-ask.ensures.0;
       counted = IfOk-from_err c.from_residual-in_err-ask.result _ c.from_residual-in_err-ask.ensures.0;
       between = IfOk-from_err c.from_residual-in_err-ask.result _ c.from_residual-in_err-ask.ensures.0;
-      led = λ root done b led.
-          let u = g.D.Interner.universe c.args.provider.now in
-          let v = c.args.version_set in
-          let r : SoftRequirement g.row.S.Denot = Matching v in
-          let old = c.args.self.now in
-          let seeds : List g.row.S.Denot = flat_map (options u) (done ++ r ∷ []) in
-          let packages : List g.row.N.Denot = flat_map (own_packages u) (done ++ r ∷ []) in
-          let own : Contains packages (u.version_set_name v) = gathered_last (own_packages u) done r (u.version_set_name v) (here (u.version_set_name v) []) in
-          let standing = standing_for u root done r b.taken b.refused old b.standing in
-          let asked = c.ask.ensures.led root b.taken b.refused seeds packages own standing (led_wider u root done r old led).all in
-          record { all = asked };
       limits = c.ask.ensures.limits;
       refusal = IfErr-of c.from_residual-in_err-ask.result _ _ c.from_residual-in_err-ask.ensures.1 c.in_err-ask.ensures.refusal;
     }
@@ -175,26 +139,6 @@ returns-in_err-take_first g c =
       still = IfOk-from_err c.from_residual-in_err-take_first.result _ c.from_residual-in_err-take_first.ensures.0;
       counted = IfOk-from_err c.from_residual-in_err-take_first.result _ c.from_residual-in_err-take_first.ensures.0;
       between = IfOk-from_err c.from_residual-in_err-take_first.result _ c.from_residual-in_err-take_first.ensures.0;
-      led = λ root done b led.
-          let u = g.D.Interner.universe c.args.provider.now in
-          let v = c.args.version_set in
-          let r : SoftRequirement g.row.S.Denot = Matching v in
-          let old = c.args.self.now in
-          let seeds : List g.row.S.Denot = flat_map (options u) (done ++ r ∷ []) in
-          let packages : List g.row.N.Denot = flat_map (own_packages u) (done ++ r ∷ []) in
-          let own : Contains packages (u.version_set_name v) = gathered_last (own_packages u) done r (u.version_set_name v) (here (u.version_set_name v) []) in
-          let standing = standing_for u root done r b.taken b.refused old b.standing in
-          let asked = c.ask.ensures.led root b.taken b.refused seeds packages own standing (led_wider u root done r old led).all in
-          let laws = g.met.D.DependencyProvider.lawful_packages c.args.provider.now in
-          let lawful = lawful_solvables u g.S.PartialEq.eq (g.met.D.Interner.lawful_ids c.args.provider.now)
-          (g.met.D.Interner.solvables_compare c.args.provider.now) g.met.D.Interner.solvables_are_values in
-          let same : c.deref-2.result.now ≡ sorted_candidates u v = c.deref-2.ensures.value ∙ c.in_ok-candidates.ensures.value in
-          let within : IsWithin c.deref-2.result.now seeds = λ s h. let Has : List g.row.S.Denot → Type 0 = λ list. Contains list s in
-          gathered_last (options u) done r s (sorted_matches u laws lawful.same_solvable v s (subst Has same h)) in
-          record {
-            all = c.take_first.ensures.led root b.taken b.refused seeds packages within
-                (c.in_ok-ask.ensures.standing root b.taken b.refused seeds packages own standing) asked;
-          };
       limits = room_trans c.args.self.now c.ask.new.self c.take_first.new.self c.ask.ensures.limits c.take_first.ensures.limits;
       refusal = IfErr-of c.from_residual-in_err-take_first.result _ _ c.from_residual-in_err-take_first.ensures.1 c.in_err-take_first.ensures.refusal;
     }

@@ -8,9 +8,6 @@ returns-in-Err-clause-sound g c = c.requires.sound
 pub returns-in-Err-from_slice-clause-sound : goal.returns-in-Err-from_slice-clause-sound
 returns-in-Err-from_slice-clause-sound g c = c.requires.sound
 
-pub returns-in-Err-clause-counts : goal.returns-in-Err-clause-counts
-returns-in-Err-clause-counts g c = record { variables = refl; clauses = refl; learnt = refl; deferred = refl }
-
 pub returns-in-Err-clause-limits : goal.returns-in-Err-clause-limits
 returns-in-Err-clause-limits g c = record { variables = refl; clauses = refl; learnt = refl }
 
@@ -19,9 +16,6 @@ returns-in-Err-clause-memory g c = ap Exhausted c.in-Err.ensures.memory
 
 pub returns-in-Err-clause-none : goal.returns-in-Err-clause-none
 returns-in-Err-clause-none g c = c.requires.none
-
-pub returns-in-Err-from_slice-clause-counts : goal.returns-in-Err-from_slice-clause-counts
-returns-in-Err-from_slice-clause-counts g c = record { variables = refl; clauses = refl; learnt = refl; deferred = refl }
 
 pub returns-in-Err-from_slice-clause-limits : goal.returns-in-Err-from_slice-clause-limits
 returns-in-Err-from_slice-clause-limits g c = record { variables = refl; clauses = refl; learnt = refl }
@@ -34,9 +28,6 @@ returns-in-Err-from_slice-clause-none g c = c.requires.none
 
 pub returns-in-Ok-from_slice-clause-chosen : goal.returns-in-Ok-from_slice-clause-chosen
 returns-in-Ok-from_slice-clause-chosen g c = c.in-Ok.ensures.list
-
-pub returns-in-Ok-from_slice-clause-counts : goal.returns-in-Ok-from_slice-clause-counts
-returns-in-Ok-from_slice-clause-counts g c = record { variables = refl; clauses = refl; learnt = refl; deferred = refl }
 
 pub returns-in-Ok-from_slice-clause-exempt : goal.returns-in-Ok-from_slice-clause-exempt
 returns-in-Ok-from_slice-clause-exempt g c = c.in-Ok-from_slice.ensures.items ∙ c.exempt.ensures

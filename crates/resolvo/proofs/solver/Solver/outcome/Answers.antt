@@ -32,20 +32,20 @@ returns-in-Ok-Contradiction g c =
       provider = c.refuse.ensures.provider;
       limits = c.refuse.ensures.limits;
       activity = c.refuse.ensures.activity;
-      counts = c.refuse.ensures.counts;
+      rounds = c.refuse.ensures.rounds;
       none = c.refuse.ensures.exempt ∙ c.requires.none;
       found = tt;
       answer = tt;
       refusal = λ root soft done.
           let u = g.D.Interner.universe c.args.self.now.provider in
-          let rounds = c.args.rounds.now in
+          let rounds = c.args.self.now.rounds in
           let it : IsDone u root soft rounds c.in-Ok-Contradiction.field-0 =
           IfOk-at_ok (IsDone u root soft rounds) c.in-Ok-Contradiction.is done in
           let both : IsReadSoFar u root (chosen_of rounds) (notes_of rounds) × IsCore (notes_of rounds).table c.in-Ok-Contradiction.core.items =
           rw c.in-Ok-Contradiction.field-0-is at it in
           let CoreOf : List ℕ → Type 0 = λ ns. IsCore (notes_of rounds).table ns in
           refusal_weaker u (g.D.DependencyProvider.may_cancel c.args.self.now.provider) root ⊥ (IsStuck rounds) (λ none. absurd none) c.refuse.result
-          (c.refuse.ensures.refusal root (notes_of rounds) (sym c.kinds.ensures) both.0.half.encoding (subst CoreOf (sym c.deref.ensures.value) both.1));
+          (c.refuse.ensures.refusal root both.0.half.encoding (subst CoreOf (sym c.deref.ensures.value) both.1));
     }
 
 pub returns-in-Ok-Answer : goal.returns-in-Ok-Answer
@@ -55,11 +55,11 @@ returns-in-Ok-Answer g c =
       provider = c.accept.ensures.provider;
       limits = c.accept.ensures.limits;
       activity = c.accept.ensures.activity;
-      counts = c.accept.ensures.counts;
+      rounds = c.accept.ensures.rounds;
       none = c.accept.ensures.none;
       found = OnOk-of (c.args.found ≡ Ok Answer) (c.in-Ok-Answer.is ∙ ap Ok c.in-Ok-Answer.field-0-is) c.accept.result;
       answer = let u = g.D.Interner.universe c.args.self.now.provider in
-          let rounds = c.args.rounds.now in
+          let rounds = c.args.self.now.rounds in
           let exempt = exempt_in c.accept.new.self in
           IfOk-both (λ chosen. chosen.items ≡ chosen_of rounds)
           (λ chosen. (root : Demands) (soft : List (SoftRequirement g.row.D-SolvableId.Denot)) → IfOk c.args.found (IsDone u root soft rounds) →
@@ -71,7 +71,7 @@ returns-in-Ok-Answer g c =
           soft_answer {E = g.row.D.Denot} u rounds (Ok chosen) exempt are free root soft between)
           c.accept.result c.accept.ensures.chosen c.accept.ensures.exempt;
       refusal = let u = g.D.Interner.universe c.args.self.now.provider in
-          let rounds = c.args.rounds.now in
+          let rounds = c.args.self.now.rounds in
           IfErr-weaker c.accept.result (λ e. e ≡ Exhausted Memory)
           (λ e. (root : Demands) (soft : List (SoftRequirement g.row.D-SolvableId.Denot)) → IfOk c.args.found (IsDone u root soft rounds) →
           IsRefusal u (g.D.DependencyProvider.may_cancel c.args.self.now.provider) root (IsStuck rounds) e)
@@ -85,7 +85,7 @@ returns-in-Err-Cancelled g c =
       provider = refl;
       limits = record { variables = refl; clauses = refl; learnt = refl };
       activity = refl;
-      counts = record { variables = refl; clauses = refl; learnt = refl; deferred = refl };
+      rounds = refl;
       none = c.requires.none;
       found = tt;
       answer = tt;
@@ -99,7 +99,7 @@ returns-in-Err-Exhausted g c =
       provider = refl;
       limits = record { variables = refl; clauses = refl; learnt = refl };
       activity = refl;
-      counts = record { variables = refl; clauses = refl; learnt = refl; deferred = refl };
+      rounds = refl;
       none = c.requires.none;
       found = tt;
       answer = tt;
@@ -113,13 +113,13 @@ returns-in-Ok-Refused g c =
       provider = c.refuse-in-Ok-Refused.ensures.provider;
       limits = c.refuse-in-Ok-Refused.ensures.limits;
       activity = c.refuse-in-Ok-Refused.ensures.activity;
-      counts = c.refuse-in-Ok-Refused.ensures.counts;
+      rounds = c.refuse-in-Ok-Refused.ensures.rounds;
       none = c.refuse-in-Ok-Refused.ensures.exempt ∙ c.requires.none;
       found = tt;
       answer = tt;
       refusal = λ root soft done.
           let u = g.D.Interner.universe c.args.self.now.provider in
-          let rounds = c.args.rounds.now in
+          let rounds = c.args.self.now.rounds in
           let it : IsDone u root soft rounds c.in-Ok-Refused.field-0 =
           IfOk-at_ok (IsDone u root soft rounds) c.in-Ok-Refused.is done in
           absurd (rw c.in-Ok-Refused.field-0-is at it);
@@ -131,10 +131,10 @@ refuse-requires-in-Ok-Refused-clause-within g c = λ k d below. absurd (omega (a
 pub refuse-requires-clause-within : goal.refuse-requires-clause-within
 refuse-requires-clause-within g c =
     let u = g.D.Interner.universe c.args.self.now.provider in
-    let rounds = c.args.rounds.now in
+    let rounds = c.args.self.now.rounds in
     let done = IfOk-at_ok (IsSomeDone u rounds) c.in-Ok-Contradiction.is c.requires.done in
     let within = core_within u rounds c.in-Ok-Contradiction.field-0 c.in-Ok-Contradiction.core c.in-Ok-Contradiction.field-0-is done in
     let table = rw c.in-Ok-Contradiction.is at c.requires.table in
     let In : ℕ → Type 0 = λ m. All (λ n. n < m) c.in-Ok-Contradiction.core.items in
-    let Of : List ℕ → Type 0 = λ ns. All (λ n. n < length c.kinds.result.now) ns in
-    subst Of (sym c.deref.ensures.value) (subst In (table ∙ ap length (sym c.kinds.ensures)) within)
+    let Of : List ℕ → Type 0 = λ ns. All (λ n. n < length (notes_of rounds).kinds) ns in
+    subst Of (sym c.deref.ensures.value) (subst In table within)

@@ -1,5 +1,7 @@
 use Rattle.resolver_encoding.proofs.RefusalLemmas.{shortage_of_memory}
-use Rattle.std.proofs.Common.{refl}
+use Rattle.std.proofs.Common.{ℕ, ◌<◌, refl, ap, length, subst, sym}
+use Rattle.std.specs.Prelude.{All}
+use Rattle.resolvo.specs.RoundStates.{notes_of}
 use Rattle.resolvo.proofs.solver.Solver.refuse.Goals as goal
 
 pub returns-in-Err-Cancelled : goal.returns-in-Err-Cancelled
@@ -9,9 +11,9 @@ returns-in-Err-Cancelled g c =
       provider = refl;
       limits = record { variables = refl; clauses = refl; learnt = refl };
       activity = refl;
-      counts = record { variables = refl; clauses = refl; learnt = refl; deferred = refl };
+      rounds = refl;
       exempt = refl;
-      refusal = λ root notes same encoding core. rw c.in-Err-Cancelled.field-0-is at (rw c.in-Err-Cancelled.is at c.explain.ensures.refusal);
+      refusal = λ root encoding core. rw c.in-Err-Cancelled.field-0-is at (rw c.in-Err-Cancelled.is at c.explain.ensures.refusal);
     }
 
 pub returns-in-Err-Exhausted : goal.returns-in-Err-Exhausted
@@ -21,9 +23,9 @@ returns-in-Err-Exhausted g c =
       provider = refl;
       limits = record { variables = refl; clauses = refl; learnt = refl };
       activity = refl;
-      counts = record { variables = refl; clauses = refl; learnt = refl; deferred = refl };
+      rounds = refl;
       exempt = refl;
-      refusal = λ root notes same encoding core.
+      refusal = λ root encoding core.
           shortage_of_memory _ _ (rw c.in-Err-Exhausted.field-0-is at (rw c.in-Err-Exhausted.is at c.explain.ensures.refusal));
     }
 
@@ -34,7 +36,13 @@ returns-in-Ok g c =
       provider = refl;
       limits = record { variables = refl; clauses = refl; learnt = refl };
       activity = refl;
-      counts = record { variables = refl; clauses = refl; learnt = refl; deferred = refl };
+      rounds = refl;
       exempt = refl;
-      refusal = λ root notes same encoding core. (rw c.in-Ok.is at c.explain.ensures.explained) root notes same encoding core;
+      refusal = λ root encoding core.
+          (rw c.in-Ok.is at c.explain.ensures.explained) root (notes_of c.args.self.now.rounds) (sym c.kinds-kinds.ensures) encoding core;
     }
+
+pub explain-requires-clause-within : goal.explain-requires-clause-within
+explain-requires-clause-within g c =
+    let Of : ℕ → Type 0 = λ m. All (λ n. n < m) c.args.core.now in
+    subst Of (ap length (sym c.kinds-kinds.ensures)) c.requires.within

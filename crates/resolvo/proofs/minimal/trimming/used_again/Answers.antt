@@ -1,7 +1,7 @@
 use Rattle.std.proofs.Common.{◌∙◌, ap, length}
 use Rattle.std.proofs.lemmas.List.{length-replicate}
-use Rattle.resolvo.proofs.RefinedLemmas.{all_used}
-use Rattle.resolvo.proofs.minimal.refining.refine.Goals as goal
+use Rattle.resolvo.proofs.TrimmedLemmas.{all_used}
+use Rattle.resolvo.proofs.minimal.trimming.used_again.Goals as goal
 
 pub searches-init : goal.searches-init
 searches-init g c =

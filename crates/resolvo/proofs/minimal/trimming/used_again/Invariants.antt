@@ -1,7 +1,7 @@
 use Rattle.std.proofs.Common.{◌≡◌, length}
 use Rattle.resolver_clause_store.specs.Rules.{IsRefuted}
 use Rattle.resolvo.specs.Minimal.{marked}
-use Rattle.resolvo.proofs.minimal.refining.refine.Given as goal
+use Rattle.resolvo.proofs.minimal.trimming.used_again.Given as goal
 
 -- the marked rules are refuted if all rules are
 abbrev pub invariant-searches : goal.invariant-searches

@@ -1,4 +1,4 @@
-use Rattle.resolvo.proofs.minimal.refining.search_again.Goals as goal
+use Rattle.resolvo.proofs.minimal.trimming.search_again.Goals as goal
 
 pub returns-in-Refuted-clause-size : goal.returns-in-Refuted-clause-size
 returns-in-Refuted-clause-size g c =

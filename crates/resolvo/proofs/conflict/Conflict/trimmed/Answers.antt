@@ -1,19 +1,19 @@
-use Rattle.resolvo.proofs.RefinedLemmas.{refined_explains, refined_part, refined_refuted}
+use Rattle.resolvo.proofs.TrimmedLemmas.{trimmed_explains, trimmed_part, trimmed_refuted}
 use Rattle.resolvo.specs.Conflicts.{rules_in}
 use Rattle.std.proofs.Common.{ap, length, sym, ◌∙◌}
 use Rattle.std.proofs.lemmas.Result.{IfOk-from_err}
 use Rattle.resolver_encoding.proofs.RefusalLemmas.{IfErr-of}
-use Rattle.resolvo.proofs.conflict.Conflict.refined_variation.Goals as goal
+use Rattle.resolvo.proofs.conflict.Conflict.trimmed.Goals as goal
 
 pub returns : goal.returns
 returns g c =
     record {
-      part = refined_part (rules_in c.args.self.now) c.in_ok-marks.marks.items c.in_ok-copies.copies.items c.in_ok-rules.rules.items
+      part = trimmed_part (rules_in c.args.self.now) c.in_ok-marks.marks.items c.in_ok-copies.copies.items c.in_ok-rules.rules.items
           (rw (c.deref.ensures.value, c.rules-2.ensures) at c.in_ok-copies.ensures.same) c.in_ok-rules.ensures.left;
-      refuted = refined_refuted (rules_in c.args.self.now) c.in_ok-marks.marks.items c.in_ok-copies.copies.items c.in_ok-rules.rules.items
+      refuted = trimmed_refuted (rules_in c.args.self.now) c.in_ok-marks.marks.items c.in_ok-copies.copies.items c.in_ok-rules.rules.items
           (rw (c.deref.ensures.value, c.rules-2.ensures) at c.in_ok-copies.ensures.same) c.in_ok-rules.ensures.left
           (rw c.rules.ensures at c.in_ok-marks.ensures.refuted) c.in_ok-rules.ensures.refuted;
-      explains = refined_explains (rules_in c.args.self.now) c.in_ok-marks.marks.items c.in_ok-copies.copies.items c.in_ok-rules.rules.items
+      explains = trimmed_explains (rules_in c.args.self.now) c.in_ok-marks.marks.items c.in_ok-copies.copies.items c.in_ok-rules.rules.items
           (rw (c.deref.ensures.value, c.rules-2.ensures) at c.in_ok-copies.ensures.same) c.in_ok-rules.ensures.left
           (rw c.rules.ensures at c.in_ok-marks.ensures.refuted) c.in_ok-rules.ensures.refuted c.in_ok-rules.ensures.again;
       memory = tt;

@@ -54,28 +54,3 @@ module _ {N S : Type 0} (rules : List (Rule N S)) (marks : List Bool) (copies ke
     refuted = refined_refuted used stays explains.refuted;
     each_reached = again;
   }
-
--- a list that is taken from another place on has the same elements
-pub turned-permutation : {X : Type 0} (xs ys : List X) (k : ℕ) → ys ≡ drop k xs ++ take k xs → IsPermutation xs ys
-turned-permutation {X} xs ys k is =
-    let From : List X → Type 0 = λ l. IsPermutation l ys in
-    let To : List X → Type 0 = λ l. IsPermutation (take k xs ++ drop k xs) l in
-    subst From (take-append-drop k xs) (subst To (sym is) (IsPermutation-append_comm (take k xs) (drop k xs)))
-
--- the order of the clauses does not matter
-pub decide-permutation : {N S : Type 0} (rules : List (Rule N S)) (variables : ℕ) (clauses others : List RuleClause) → IsPermutation clauses others →
-    DecideRules rules variables clauses → DecideRules rules variables others
-decide-permutation rules variables clauses others moved it = record {
-  sound = λ marks set size obeys.
-      let found = it.sound marks set size obeys in (
-        found.0,
-        All-permutation (λ (clause : RuleClause).
-            slice_index_or marks clause.rule false ≡ true → clause_true found.0 clause.literals.items ≡ true) clauses others moved found.1,
-      );
-  complete = λ marks values size holds. it.complete marks values size
-      (All-permutation (λ (clause : RuleClause). slice_index_or marks clause.rule false ≡ true → clause_true values clause.literals.items ≡ true)
-      others clauses (IsPermutation-sym clauses others moved) holds);
-  guarded = All-permutation (λ (clause : RuleClause). clause.is_requirement ≡ false → IsGuarded clause.literals.items) clauses others moved it.guarded;
-  places = All-permutation (λ (clause : RuleClause). clause.rule < length rules) clauses others moved it.places;
-  below = All-permutation (λ (clause : RuleClause). IsBelow variables clause.literals.items) clauses others moved it.below;
-}

@@ -1,6 +1,6 @@
 use Rattle.std.proofs.lemmas.Result.{IfOk-from_err}
 use Rattle.resolver_encoding.proofs.RefusalLemmas.{IfErr-of}
-use Rattle.resolvo.proofs.minimal.refining.marks_used_again.Goals as goal
+use Rattle.resolvo.proofs.minimal.trimming.trimmed_marks.Goals as goal
 
 pub returns-in_err-form : goal.returns-in_err-form
 returns-in_err-form g c =
