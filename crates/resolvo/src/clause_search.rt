@@ -21,7 +21,7 @@ ghost use Rattle.resolver_clause_store.specs.Settled.{AllSettled};
 ghost use Rattle.resolver_clause_store.specs.WatchesView.{pairs_of};
 ghost use Rattle.resolvo.specs.Propagators.{IsPropagator};
 ghost use Rattle.resolvo.specs.Returning.{IsBelowHighest, TakesBack};
-ghost use Rattle.resolvo.specs.Steps.{EndsDecided, HasNoNext, StepIs, Takes};
+ghost use Rattle.resolvo.specs.Steps.{AreDone, StepIs, Takes};
 ghost use Rattle.resolvo.specs.declared.propagator.Propagator.{Propagator};
 ghost use Rattle.resolvo.specs.WatchedClauses.{AreInLists, AreOwned};
 ghost use Rattle.resolver_clause_store.specs.Queues.{IsQueued};
@@ -89,27 +89,6 @@ pub struct ClauseSearch {
     ghost in_lists: { ∥ AreInLists table propagator.watches ∥₁ },
 }
 
-/// Takes a choice: begins a level with its candidate.
-pub fn take(trail: &mut Trail, table: &Clauses, choice: Choice) -> Result<(), AllocError>
-    requires below { AreBelow (variable_count trail.old) table.now }
-    requires inside { choice.number < length table.now }
-    requires first { IsFirst trail.old (clause_at table.now choice.number) choice.place }
-    requires justified { IsJustified table.now trail.old }
-    ensures justified { OnOk result (IsJustified table.now trail.new) }
-    ensures chosen { OnOk result ((requirements : List StoredRequirement) → IsChoice trail.old table.now requirements choice →
-        AreChosen table.now requirements trail.old → AreChosen table.now requirements trail.new) }
-    ensures size { OnOk result (variable_count trail.new ≡ variable_count trail.old) }
-    ensures taken { OnOk result (Takes trail.old trail.new table.now choice) }
-    ensures fewer { OnOk result (open_count trail.new < open_count trail.old) }
-    ensures kept { OnOk result (KeepsPlaces trail.old trail.new (length_of trail.old)) }
-    ensures assumed { OnOk result (AssumesNone trail.old trail.new) }
-    ensures propagator { OnOk result ((propagator : Propagator) → IsPropagator table.now trail.old propagator → IsPropagator table.now trail.new propagator) }
-{
-    let literal = clause(table, choice.number)[choice.place];
-    trail.decide(literal, choice.number)?;
-    Ok(())
-}
-
 /// What comes next in a search.
 #[derive(Drop)]
 pub enum Step {
@@ -119,130 +98,6 @@ pub enum Step {
     Conflict(usize),
     /// No requirement is left to decide.
     Finished,
-}
-
-/// Propagates, and returns what comes next.
-///
-/// The provider may stop the search before the propagation.
-#[inline(always)]
-pub fn next_step<D: DependencyProvider>(
-    provider: &D,
-    trail: &mut Trail,
-    queue: &mut DecideQueue,
-    table: &Clauses,
-    requirements: &[StoredRequirement],
-    propagator: &mut Propagator,
-) -> Result<Step, Interrupted<D::Cancel>>
-    requires below { AreBelow (variable_count trail.old) table.now }
-    requires propagator { IsPropagator table.now trail.old propagator.old }
-    requires inside { All (λ (requirement : StoredRequirement). requirement.number < length table.now) requirements.now }
-    requires justified { IsJustified table.now trail.old }
-    requires chosen { AreChosen table.now requirements.now trail.old }
-    requires queued { IsQueued queue.old trail.old table.now requirements.now }
-    ensures step { IfOk result (StepIs trail.new table.now requirements.now) }
-    ensures propagator { OnOk result (IsPropagator table.now trail.new propagator.new) }
-    ensures refused { OnErr result (AreOwned table.now (pairs_of propagator.new.watches)) }
-    ensures justified { OnOk result (IsJustified table.now trail.new) }
-    ensures chosen { OnOk result (AreChosen table.now requirements.now trail.new) }
-    ensures size { OnOk result (variable_count trail.new ≡ variable_count trail.old) }
-    ensures kept { OnOk result (KeepsPlaces trail.old trail.new (length_of trail.old)) }
-    ensures fewer { OnOk result (open_count trail.new ≤ open_count trail.old) }
-    ensures assumed { OnOk result (AssumesNone trail.old trail.new) }
-    ensures queued { OnOk result (IsQueued queue.new trail.new table.now requirements.now) }
-    ensures refusal { IfErr result (IsInterruption (D.may_cancel provider.now)) }
-{
-    check_cancel(provider)?;
-    if let Some(number) = apply_all_pending(trail, table, propagator)? {
-        return Ok(Step::Conflict(number));
-    }
-    if let Some(number) = propagate(trail, table, propagator)? {
-        return Ok(Step::Conflict(number));
-    }
-    match queue.next(trail, table, requirements)? {
-        Some(choice) => Ok(Step::Decide(choice)),
-        None => Ok(Step::Finished),
-    }
-}
-
-/// Propagates, and takes the choice that comes next. Returns whether there was one.
-///
-/// The provider may stop the search before the propagation.
-fn take_next<D: DependencyProvider>(
-    provider: &D,
-    trail: &mut Trail,
-    queue: &mut DecideQueue,
-    table: &Clauses,
-    requirements: &[StoredRequirement],
-    propagator: &mut Propagator,
-) -> Result<bool, Interrupted<D::Cancel>>
-    requires below { AreBelow (variable_count trail.old) table.now }
-    requires propagator { IsPropagator table.now trail.old propagator.old }
-    requires inside { All (λ (requirement : StoredRequirement). requirement.number < length table.now) requirements.now }
-    requires justified { IsJustified table.now trail.old }
-    requires chosen { AreChosen table.now requirements.now trail.old }
-    requires queued { IsQueued queue.old trail.old table.now requirements.now }
-    ensures propagator { OnOk result (IsPropagator table.now trail.new propagator.new) }
-    ensures refused { OnErr result (AreOwned table.now (pairs_of propagator.new.watches)) }
-    ensures justified { OnOk result (IsJustified table.now trail.new) }
-    ensures chosen { OnOk result (AreChosen table.now requirements.now trail.new) }
-    ensures size { OnOk result (variable_count trail.new ≡ variable_count trail.old) }
-    ensures kept { OnOk result (KeepsPlaces trail.old trail.new (length_of trail.old)) }
-    ensures assumed { OnOk result (AssumesNone trail.old trail.new) }
-    ensures taken { IfOk result (λ is_taken. is_taken ≡ true → EndsDecided trail.new table.now requirements.now) }
-    ensures none { IfOk result (λ is_taken. is_taken ≡ false → HasNoNext trail.new table.now requirements.now) }
-    ensures fewer { IfOk result (λ is_taken. is_taken ≡ true → open_count trail.new < open_count trail.old) }
-    ensures queued { OnOk result (IsQueued queue.new trail.new table.now requirements.now) }
-    ensures refusal { IfErr result (IsInterruption (D.may_cancel provider.now)) }
-{
-    match next_step(provider, trail, queue, table, requirements, propagator)? {
-        Step::Decide(choice) => {
-            take(trail, table, choice)?;
-            Ok(true)
-        }
-        Step::Conflict(_) => Ok(false),
-        Step::Finished => Ok(false),
-    }
-}
-
-/// Propagates and decides until no requirement is left to decide or a clause is false. Returns the number of that
-/// clause.
-///
-/// The provider may stop the search before each propagation.
-pub fn descend<D: DependencyProvider>(
-    provider: &D,
-    trail: &mut Trail,
-    queue: &mut DecideQueue,
-    table: &Clauses,
-    requirements: &[StoredRequirement],
-    propagator: &mut Propagator,
-) -> Result<Option<usize>, Interrupted<D::Cancel>>
-    requires below { AreBelow (variable_count trail.old) table.now }
-    requires propagator { IsPropagator table.now trail.old propagator.old }
-    requires inside { All (λ (requirement : StoredRequirement). requirement.number < length table.now) requirements.now }
-    requires justified { IsJustified table.now trail.old }
-    requires chosen { AreChosen table.now requirements.now trail.old }
-    requires queued { IsQueued queue.old trail.old table.now requirements.now }
-    ensures conflict { IfOk result (λ answer. IfSome answer (IsConflict trail.new table.now)) }
-    ensures settled { IfOk result (λ answer. IfNone answer (AllSettled trail.new table.now)) }
-    ensures met { IfOk result (λ answer.
-        IfNone answer (All (λ (requirement : StoredRequirement). IsMet trail.new (clause_at table.now requirement.number)) requirements.now)) }
-    ensures propagator { OnOk result (IsPropagator table.now trail.new propagator.new) }
-    ensures refused { OnErr result (AreOwned table.now (pairs_of propagator.new.watches)) }
-    ensures justified { OnOk result (IsJustified table.now trail.new) }
-    ensures chosen { OnOk result (AreChosen table.now requirements.now trail.new) }
-    ensures size { OnOk result (variable_count trail.new ≡ variable_count trail.old) }
-    ensures kept { OnOk result (KeepsPlaces trail.old trail.new (length_of trail.old)) }
-    ensures assumed { OnOk result (AssumesNone trail.old trail.new) }
-    ensures queued { OnOk result (IsQueued queue.new trail.new table.now requirements.now) }
-    ensures refusal { IfErr result (IsInterruption (D.may_cancel provider.now)) }
-{
-    'steps: loop {
-        match next_step(provider, trail, queue, table, requirements, propagator)? {
-            Step::Decide(choice) => take(trail, table, choice)?,
-            Step::Conflict(number) => return Ok(Some(number)),
-            Step::Finished => return Ok(None),
-        }
-    }
 }
 
 /// Returns the level to go back to when a clause is added: if it is false, the one below the highest level of its
@@ -735,6 +590,80 @@ impl ClauseSearch {
         Ok(())
     }
 
+    /// Propagates, and returns what comes next.
+    ///
+    /// The provider may stop the search before the propagation.
+    #[inline(always)]
+    fn next_step<D: DependencyProvider>(
+        &mut self,
+        provider: &D,
+    ) -> Result<Step, Interrupted<D::Cancel>>
+        requires consistent { IsConsistent self.old }
+        ensures consistent { OnOk result (IsConsistent self.new) }
+        ensures same { OnOk result (IsSameProblem self.old self.new) }
+        ensures learnt { OnOk result (learnt_count_of self.new ≡ learnt_count_of self.old) }
+        ensures step { IfOk result (StepIs self.new.trail self.new.table self.new.requirements.items) }
+        ensures fewer { OnOk result (open_count self.new.trail ≤ open_count self.old.trail) }
+        ensures refusal { IfErr result (IsInterruption (D.may_cancel provider.now)) }
+    {
+        check_cancel(provider)?;
+        if let Some(number) =
+            apply_all_pending(&mut self.trail, &self.table, &mut self.propagator)?
+        {
+            return Ok(Step::Conflict(number));
+        }
+        if let Some(number) = propagate(&mut self.trail, &self.table, &mut self.propagator)? {
+            return Ok(Step::Conflict(number));
+        }
+        let requirements = self.requirements.as_slice();
+        match self.queue.next(&self.trail, &self.table, requirements)? {
+            Some(choice) => Ok(Step::Decide(choice)),
+            None => Ok(Step::Finished),
+        }
+    }
+
+    /// Takes a choice: begins a level with its candidate.
+    fn take(&mut self, choice: Choice) -> Result<(), AllocError>
+        requires consistent { IsConsistent self.old }
+        requires choice { IsChoice self.old.trail self.old.table self.old.requirements.items choice }
+        ensures consistent { OnOk result (IsConsistent self.new) }
+        ensures same { OnOk result (IsSameProblem self.old self.new) }
+        ensures learnt { OnOk result (learnt_count_of self.new ≡ learnt_count_of self.old) }
+        ensures taken { OnOk result (Takes self.old.trail self.new.trail self.new.table choice) }
+        ensures given { OnOk result (self.new.table ≡ self.old.table) }
+        ensures requirements { OnOk result (self.new.requirements ≡ self.old.requirements) }
+        ensures fewer { OnOk result (open_count self.new.trail < open_count self.old.trail) }
+    {
+        let literal = clause(&self.table, choice.number)[choice.place];
+        self.trail.decide(literal, choice.number)?;
+        Ok(())
+    }
+
+    /// Propagates and decides until no requirement is left to decide or a clause is false. Returns the number of that
+    /// clause.
+    ///
+    /// The provider may stop the search before each propagation.
+    fn descend<D: DependencyProvider>(
+        &mut self,
+        provider: &D,
+    ) -> Result<Option<usize>, Interrupted<D::Cancel>>
+        requires consistent { IsConsistent self.old }
+        ensures consistent { OnOk result (IsConsistent self.new) }
+        ensures same { OnOk result (IsSameProblem self.old self.new) }
+        ensures learnt { OnOk result (learnt_count_of self.new ≡ learnt_count_of self.old) }
+        ensures conflict { IfOk result (λ answer. IfSome answer (IsConflict self.new.trail self.new.table)) }
+        ensures done { IfOk result (λ answer. IfNone answer (AreDone self.new.trail self.new.table self.new.requirements.items)) }
+        ensures refusal { IfErr result (IsInterruption (D.may_cancel provider.now)) }
+    {
+        'steps: loop {
+            match self.next_step(provider)? {
+                Step::Decide(choice) => self.take(choice)?,
+                Step::Conflict(number) => return Ok(Some(number)),
+                Step::Finished => return Ok(None),
+            }
+        }
+    }
+
     /// Restarts the search, if that is due. It keeps the levels below the first decision that would now come after the
     /// next one.
     fn restart<D: DependencyProvider>(&mut self, provider: &D) -> Result<(), Interrupted<D::Cancel>>
@@ -747,15 +676,7 @@ impl ClauseSearch {
         if !is_due(self.learnt, self.trail.level().saturating_sub(self.base)) {
             return Ok(());
         }
-        let step = next_step(
-            provider,
-            &mut self.trail,
-            &mut self.queue,
-            &self.table,
-            self.requirements.as_slice(),
-            &mut self.propagator,
-        )?;
-        match step {
+        match self.next_step(provider)? {
             Step::Decide(choice) => {
                 let level = kept_level(
                     &self.trail,
@@ -789,15 +710,14 @@ impl ClauseSearch {
         ensures fewer { IfOk result (λ is_made. is_made ≡ true → open_count (trail_of self.new) < open_count (trail_of self.old)) }
         ensures refusal { IfErr result (IsInterruption (D.may_cancel provider.now)) }
     {
-        let is_made = take_next(
-            provider,
-            &mut self.trail,
-            &mut self.queue,
-            &self.table,
-            self.requirements.as_slice(),
-            &mut self.propagator,
-        )?;
-        Ok(is_made)
+        match self.next_step(provider)? {
+            Step::Decide(choice) => {
+                self.take(choice)?;
+                Ok(true)
+            }
+            Step::Conflict(_) => Ok(false),
+            Step::Finished => Ok(false),
+        }
     }
 
     /// Searches for values, or for given clauses that no values make true together.
@@ -825,14 +745,7 @@ impl ClauseSearch {
             (IsStop (D.may_cancel provider.now) ((learnt_limit ≤ learnt_count_of self.new) ⊎ (clause_limit ≤ clause_count_of self.new))) }
     {
         'conflicts: loop {
-            match descend(
-                provider,
-                &mut self.trail,
-                &mut self.queue,
-                &self.table,
-                self.requirements.as_slice(),
-                &mut self.propagator,
-            )? {
+            match self.descend(provider)? {
                 None => return Ok(Outcome::Finished),
                 Some(number) => {
                     self.generalize(alloc, number, learnt_limit, clause_limit)?;

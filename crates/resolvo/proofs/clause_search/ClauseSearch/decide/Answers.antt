@@ -1,21 +1,31 @@
-use Rattle.resolvo.proofs.LoadLemmas.{problem-descended, problem-itself}
-use Rattle.resolvo.proofs.TurnLemmas.{consistent-descended}
-use Rattle.resolvo.proofs.WatchedLemmas.{in_lists, owned-either}
+use Rattle.std.proofs.Common.{List, ap, arith, subst, sym, ◌∙◌, true, false}
+use Rattle.std.proofs.lemmas.Bool.{false≢true}
+use Rattle.resolver_clause_store.specs.Decisions.{IsChoice}
+use Rattle.resolver_clause_store.specs.declared.Literal.{Literal}
+use Rattle.resolver_clause_store.specs.declared.StoredRequirement.{StoredRequirement}
+use Rattle.resolvo.proofs.LoadLemmas.{problem-trans}
 use Rattle.resolvo.proofs.clause_search.ClauseSearch.decide.Goals as goal
 
-pub invariant_of-self : goal.invariant_of-self
-invariant_of-self g c =
-    record { in_lists = ∣ in_lists _ _ (owned-either c.take_next.result _ _ _ c.take_next.ensures.propagator c.take_next.ensures.refused) ∣₁ }
-
-pub returns-clause-consistent : goal.returns-clause-consistent
-returns-clause-consistent g c =
-    let step = c.in_ok-is_made.ensures in
-    let wanted = c.as_slice.ensures.value in
-    consistent-descended c.args.self.now _ _ _ _ c.requires.consistent step.size step.justified (rw wanted at step.chosen) step.kept step.propagator
-    (rw wanted at step.queued)
-
-pub returns-clause-same : goal.returns-clause-same
-returns-clause-same g c =
-    let step = c.in_ok-is_made.ensures in
-    problem-descended _ c.args.self.now c.take_next.new.trail c.take_next.new.propagator c.take_next.new.queue _ c.requires.consistent
-    (problem-itself c.args.self.now) step.size step.kept step.assumed
+pub returns-in_ok-take-in-Decide : goal.returns-in_ok-take-in-Decide
+returns-in_ok-take-in-Decide g c =
+    let step = c.in_ok-choice.ensures in
+    let took = c.in_ok-take-in-Decide.ensures in
+    let middle = c.next_step.new.self in
+    let new = c.take.new.self in
+    record {
+      consistent = took.consistent;
+      same = problem-trans _ _ _ step.same took.same;
+      learnt = took.learnt ∙ step.learnt;
+      made = λ _.
+          let Next : List (List Literal) → List StoredRequirement → Type 0 = λ table requirements. IsChoice middle.trail table requirements c.in-Decide.choice in
+          record {
+            before = middle.trail;
+            choice = c.in-Decide.choice;
+            next = subst (λ table. Next table new.requirements.items) (sym took.given)
+                (subst (λ requirements. Next middle.table requirements) (sym (ap (λ v. v.items) took.requirements)) (rw c.in-Decide.is at step.step));
+            taken = took.taken;
+          };
+      none = λ e. absurd (false≢true (sym e));
+      fewer = λ _. omega (arith, took.fewer, step.fewer);
+      refusal = tt;
+    }

@@ -1,39 +1,31 @@
+use Rattle.std.proofs.Common.{refl}
+use Rattle.resolver_clause_store.proofs.KeptLemmas.{keeps_all}
+use Rattle.resolvo.specs.ClauseSearches.{IsConsistent, IsSameProblem}
+use Rattle.resolvo.specs.WatchedClauses.{AreInLists}
+use Rattle.resolvo.specs.declared.clause_search.ClauseSearch.{ClauseSearch}
 use Rattle.resolvo.proofs.LoadLemmas.{problem-descended, problem-itself, problem-trans}
-use Rattle.resolvo.proofs.TurnLemmas.{consistent-descended}
-use Rattle.resolvo.proofs.WatchedLemmas.{in_lists, owned-either}
 use Rattle.resolvo.proofs.clause_search.ClauseSearch.restart.Goals as goal
 
-pub invariant_of-self-2 : goal.invariant_of-self-2
-invariant_of-self-2 g c =
-    record { in_lists = ∣ in_lists _ _ (owned-either c.next_step.result _ _ _ c.next_step.ensures.propagator c.next_step.ensures.refused) ∣₁ }
-
-pub return_to-requires : goal.return_to-requires
-return_to-requires g c =
-    let step = c.in_ok-step.ensures in
-    let wanted = c.as_slice.ensures.value in
-    record {
-      consistent = consistent-descended c.args.self.now _ _ _ _ c.requires.consistent step.size step.justified (rw wanted at step.chosen) step.kept
-          step.propagator (rw wanted at step.queued);
-    }
+-- another proof that the clauses are in their lists changes nothing
+same_opened : (a b : ClauseSearch) (in_lists : ∥ AreInLists b.table b.propagator.watches ∥₁) → IsConsistent b → IsSameProblem a b →
+    IsSameProblem a (record b { in_lists = in_lists })
+same_opened a b in_lists it same =
+    problem-descended a b b.trail b.propagator b.queue in_lists it same refl (keeps_all b.trail b.trail (record { kept = λ v s h. h }))
+    (record { was = λ v s at assumed. at })
 
 pub returns-in_ok-return_to-in-Decide-clause-same : goal.returns-in_ok-return_to-in-Decide-clause-same
 returns-in_ok-return_to-in-Decide-clause-same g c =
-    let step = c.in_ok-step.ensures in
-    problem-trans _ _ _
-    (problem-descended _ c.args.self.now c.next_step.new.trail c.next_step.new.propagator c.next_step.new.queue _ c.requires.consistent
-    (problem-itself c.args.self.now) step.size step.kept step.assumed)
-    c.in_ok-return_to-in-Decide.ensures.same
+    let step = c.in_ok-choice.ensures in
+    let old = c.args.self.now in
+    problem-trans _ _ _ (same_opened old c.next_step.new.self _ step.consistent
+    (problem-trans _ _ _ (same_opened old old _ c.requires.consistent (problem-itself old)) step.same)) c.in_ok-return_to-in-Decide.ensures.same
 
-pub returns-in-Conflict-clause-consistent : goal.returns-in-Conflict-clause-consistent
-returns-in-Conflict-clause-consistent g c =
-    let step = c.in_ok-step.ensures in
-    let wanted = c.as_slice.ensures.value in
-    consistent-descended c.args.self.now _ _ _ _ c.requires.consistent step.size step.justified (rw wanted at step.chosen) step.kept step.propagator
-    (rw wanted at step.queued)
+pub returns-in-Conflict-clause-same : goal.returns-in-Conflict-clause-same
+returns-in-Conflict-clause-same g c =
+    let old = c.args.self.now in
+    problem-trans _ _ _ (same_opened old old _ c.requires.consistent (problem-itself old)) c.in_ok-choice.ensures.same
 
-pub returns-in-Finished-clause-consistent : goal.returns-in-Finished-clause-consistent
-returns-in-Finished-clause-consistent g c =
-    let step = c.in_ok-step.ensures in
-    let wanted = c.as_slice.ensures.value in
-    consistent-descended c.args.self.now _ _ _ _ c.requires.consistent step.size step.justified (rw wanted at step.chosen) step.kept step.propagator
-    (rw wanted at step.queued)
+pub returns-in-Finished-clause-same : goal.returns-in-Finished-clause-same
+returns-in-Finished-clause-same g c =
+    let old = c.args.self.now in
+    problem-trans _ _ _ (same_opened old old _ c.requires.consistent (problem-itself old)) c.in_ok-choice.ensures.same
