@@ -18,7 +18,7 @@ use Rattle.resolver_clause_store.proofs.TrailLemmas.{value-false}
 use Rattle.resolver_clause_store.proofs.FormulaLemmas.{beq-false}
 use Rattle.resolver_clause_store.proofs.KeptLemmas.{slot_at}
 use Rattle.resolvo.specs.Propagation.{IsJustified}
-use Rattle.resolvo.specs.declared.analyze.Resolvent.{Resolvent}
+use Rattle.resolvo.specs.declared.learn.resolve.Resolvent.{Resolvent}
 use Rattle.resolvo.specs.Resolvents.{is_marked, MarksAlso, StandsAt, IsLevelled, IsLow, IsReason, IsSingle, IsAsserting, Negates, level_in}
 use Rattle.resolvo.proofs.MarkLemmas.{unmarked-set}
 use Rattle.resolvo.proofs.NegationLemmas.{negation}

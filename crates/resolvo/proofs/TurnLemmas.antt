@@ -17,7 +17,7 @@ use Rattle.resolver_clause_store.specs.TrailView.{variable_count}
 use Rattle.resolver_clause_store.proofs.KeptLemmas.{keeps_all, keeps_grown, keeps_places, keeps_through, keeps_trans, slot-back as keeps-back, slot_at}
 use Rattle.resolver_clause_store.proofs.SlotLemmas.{level-last, none-from}
 use Rattle.resolver_clause_store.proofs.TrailLemmas.{Keeps, gains-cases, keeps-gains, value-false}
-use Rattle.resolvo.specs.declared.analyze.Learnt.{Learnt}
+use Rattle.resolvo.specs.declared.learn.clause.Learnt.{Learnt}
 use Rattle.resolvo.specs.declared.clause_search.ClauseSearch.{ClauseSearch}
 use Rattle.resolvo.specs.Sources.{Source}
 use Rattle.resolvo.specs.ClauseSearches.{IsConsistent, IsLoaded, IsRefused, IsTurn, KeepsFirst, KeepsTurn}

@@ -9,11 +9,10 @@ use Rattle.resolver_clause_store.specs.declared.Trail.{Trail}
 use Rattle.resolver_clause_store.specs.Formula.{MakesTrue, FollowsFrom, clause_at}
 use Rattle.resolver_clause_store.specs.Outcomes.{IsFalsified}
 use Rattle.resolver_clause_store.specs.TrailView.{length_of, literal_value, place_of, slot_of, variable_count}
-use Rattle.resolvo.specs.declared.analyze.Resolvent.{Resolvent}
-use Rattle.resolvo.specs.declared.analyze.Learnt.{Learnt}
-use Rattle.resolvo.specs.declared.analyze.Analysis.{Analysis}
-use Rattle.resolvo.specs.declared.generalizer.General.{General}
-use Rattle.resolvo.specs.declared.analyze.Analysis.TheVariants.{Contradiction, Clause}
+use Rattle.resolvo.specs.declared.learn.resolve.Resolvent.{Resolvent}
+use Rattle.resolvo.specs.declared.learn.clause.Learnt.{Learnt}
+use Rattle.resolvo.specs.declared.learn.Analysis.{Analysis}
+use Rattle.resolvo.specs.declared.learn.Analysis.TheVariants.{Contradiction, Clause}
 
 -- whether a number is marked
 abbrev pub is_marked : List Bool → ℕ → Bool
@@ -170,13 +169,6 @@ pub record IsLearnt (table : List (List Literal)) (trail : Trail) (learnt : Lear
   pub drawn : All (IsDrawn table learnt.causes.items) learnt.literals.items
   pub falsified : IsFalsified trail learnt.literals.items
   pub asserting : IsAsserting trail learnt.backtrack_level learnt.literal learnt.literals.items
-
--- the clause follows from its causes, has only literals of theirs, and is false under the trail
-pub record IsGeneral (table : List (List Literal)) (trail : Trail) (general : General) : Type 0 where
-  pub within : All (λ number. number < length table) general.causes.items
-  pub follows : FollowsFrom table general.causes.items general.literals.items
-  pub drawn : All (IsDrawn table general.causes.items) general.literals.items
-  pub falsified : IsFalsified trail general.literals.items
 
 -- an unsatisfiable core of the table, or a clause that follows from some of its clauses
 abbrev pub AnalysisIs : List (List Literal) → Trail → Analysis → Type 0

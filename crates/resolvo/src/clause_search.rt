@@ -25,18 +25,15 @@ ghost use Rattle.resolvo.specs.Steps.{AreDone, StepIs, Takes};
 ghost use Rattle.resolvo.specs.declared.propagator.Propagator.{Propagator};
 ghost use Rattle.resolvo.specs.WatchedClauses.{AreInLists, AreOwned};
 ghost use Rattle.resolver_clause_store.specs.Queues.{IsQueued};
-ghost use Rattle.resolvo.specs.Resolvents.{IsGeneral, IsLearnt, level_in};
+ghost use Rattle.resolvo.specs.Resolvents.{IsLearnt, level_in};
 
-use crate::analyze::{Analysis, BlankMarks, Learnt, analyze, asserted_level, highest_level};
 use crate::clause_state::{State, examine};
 use crate::contradiction::core;
-use crate::generalizer::{General, Generalizer, generalize};
-use crate::minimizer::Minimizer;
+use crate::learn::{Analysis, BlankMarks, Learnt, analyze, asserted_level, highest_level};
 use crate::places::Places;
 use crate::propagator::{Propagator, apply_all_pending, begins_level, propagate};
 use crate::restarts::{is_due, kept_level};
 use crate::sources::Sources;
-use crate::strengthener::Strengthener;
 use resolver_clause_store::{
     Activity, Choice, Clauses, DecideQueue, DependencyProvider, Exhausted, Interrupted, Literal,
     Owner, RequirementClause, StoredRequirement, Trail, UnionEnds, check_cancel, clause, narrow,
@@ -78,12 +75,6 @@ pub struct ClauseSearch {
     held: usize,
     /// Marks of the variables, for the analysis of a conflict.
     marks: BlankMarks,
-    /// What the analysis of a conflict knows of variables.
-    minimizer: Minimizer,
-    /// What it knows of other clauses that imply them.
-    strengthener: Strengthener,
-    /// When it looks for a second clause.
-    generalizer: Generalizer,
     /// The requirements that may be left to decide.
     queue: DecideQueue,
     ghost in_lists: { ∥ AreInLists table propagator.watches ∥₁ },
@@ -151,9 +142,6 @@ impl ClauseSearch {
             base: 0,
             held: 0,
             marks: BlankMarks::new(alloc),
-            minimizer: Minimizer::new(alloc),
-            strengthener: Strengthener::new(alloc),
-            generalizer: Generalizer::new(alloc),
             queue: DecideQueue::new(alloc, activity),
         }
     }
@@ -488,16 +476,7 @@ impl ClauseSearch {
         ensures below { IfOk result (λ answer. IfNone answer (learnt_count_of self.old < learnt_limit)) }
         ensures ids { IfErr result (λ e. e ≡ Ids → (learnt_limit ≤ learnt_count_of self.new) ⊎ (clause_limit ≤ clause_count_of self.new)) }
     {
-        match analyze(
-            alloc,
-            &mut self.marks,
-            &mut self.minimizer,
-            &mut self.strengthener,
-            self.propagator.watches(),
-            &self.table,
-            &self.trail,
-            number,
-        )? {
+        match analyze(alloc, &mut self.marks, &self.table, &self.trail, number)? {
             Analysis::Contradiction(causes) => {
                 let numbers = core(alloc, &self.table, &self.sources, causes.as_slice())?;
                 Ok(Some(Outcome::Contradiction(numbers)))
@@ -506,71 +485,6 @@ impl ClauseSearch {
                 let answer = self.add_learnt(learnt, learnt_limit, clause_limit)?;
                 Ok(answer)
             }
-        }
-    }
-
-    /// Appends a learnt clause that asserts no literal. The trail stays as it is.
-    fn add_general(&mut self, general: General) -> Result<(), AllocError>
-        requires consistent { IsConsistent self.old }
-        requires general { IsGeneral self.old.table self.old.trail general }
-        ensures consistent { OnOk result (IsConsistent self.new) }
-        ensures same { OnOk result (IsSameProblem self.old self.new) }
-        ensures trail { self.new.trail ≡ self.old.trail }
-        ensures table { OnOk result (self.new.table ≡ self.old.table ++ general.literals.items ∷ []) }
-        ensures count { OnOk result (learnt_count_of self.new ≡ learnt_count_of self.old + 1) }
-    {
-        let General { literals, causes } = general;
-        self.propagator.attach(&self.trail, &literals)?;
-        self.table.push(&literals)?;
-        self.sources.push_learnt(causes)?;
-        self.learnt += 1;
-        Ok(())
-    }
-
-    /// Returns whether two more clauses may be learnt.
-    fn has_room_for_two(&self, learnt_limit: usize, clause_limit: usize) -> bool {
-        learnt_limit.saturating_sub(self.learnt) > 1
-            && clause_limit.saturating_sub(self.table.len()) > 1
-    }
-
-    /// Learns a clause that asserts no literal from a false clause, if the search is long and there is one that is
-    /// worth it.
-    fn generalize(
-        &mut self,
-        alloc: Global,
-        number: usize,
-        learnt_limit: usize,
-        clause_limit: usize,
-    ) -> Result<(), Exhausted>
-        requires consistent { IsConsistent self.old }
-        requires conflict { IsConflict self.old.trail self.old.table number }
-        ensures consistent { OnOk result (IsConsistent self.new) }
-        ensures same { OnOk result (IsSameProblem self.old self.new) }
-        ensures conflict { OnOk result (IsConflict self.new.trail self.new.table number) }
-        ensures learnt { OnOk result (learnt_count_of self.old ≤ learnt_count_of self.new) }
-        ensures memory { IfErr result (λ e. e ≡ Memory) }
-    {
-        if !self.generalizer.is_due(self.learnt)
-            || !self.has_room_for_two(learnt_limit, clause_limit)
-        {
-            return Ok(());
-        }
-        let general = generalize(
-            alloc,
-            &mut self.marks,
-            &mut self.generalizer,
-            &self.queue,
-            &self.table,
-            &self.trail,
-            number,
-        )?;
-        self.generalizer.note(general.is_some());
-        match general {
-            Some(general) => {
-                self.add_general(general)?;
-                Ok(())
-            }
-            None => Ok(()),
         }
     }
 
@@ -748,7 +662,6 @@ impl ClauseSearch {
             match self.descend(provider)? {
                 None => return Ok(Outcome::Finished),
                 Some(number) => {
-                    self.generalize(alloc, number, learnt_limit, clause_limit)?;
                     match self.learn(alloc, number, learnt_limit, clause_limit)? {
                         Some(outcome) => return Ok(outcome),
                         None => self.restart(provider)?,

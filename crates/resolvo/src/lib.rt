@@ -1,16 +1,14 @@
 //! A package solver with explained conflicts.
 #![tactic(auto)]
 
-mod analyze;
 mod clause_search;
 mod clause_state;
 mod conflict;
 mod contradiction;
 #[cfg(test)]
 mod encoding_tests;
-mod generalizer;
+mod learn;
 mod minimal;
-mod minimizer;
 mod owners;
 mod places;
 mod problem;
@@ -21,8 +19,7 @@ mod rounds;
 mod scanning;
 mod solver;
 mod sources;
-mod standings;
-mod strengthener;
+mod tuning;
 #[cfg(test)]
 mod test_provider;
 

@@ -3,24 +3,14 @@
 ghost use Rattle.std.specs.Prelude.{◌<◌, length};
 ghost use Rattle.resolver_clause_store.specs.Formula.{clause_at};
 
+use crate::tuning::RESTART_LEVELS;
 use resolver_clause_store::{
     Choice, Clauses, DecideQueue, Literal, Reason, StoredRequirement, Trail, Variable, clause,
 };
 
-/// The number of learnt clauses from which on a search is long.
-///
-/// In a shorter one, the rule for long ones makes the message of a conflict longer.
-const LONG_FROM: usize = 500;
-
-/// Returns whether a restart is due: after each second learnt clause, in a search of at most four levels, and in a long
-/// search after each third, if it has at most five.
-///
-/// What a restart undoes has to be decided again, so it does not pay in a search of many levels.
+/// Returns whether a restart is due: after each second learnt clause, in a search of few levels.
 pub fn is_due(learnt: usize, levels: usize) -> bool {
-    if learnt < LONG_FROM {
-        return learnt % 2 == 0 && levels <= 4;
-    }
-    learnt % 3 == 0 && levels <= 5
+    learnt % 2 == 0 && levels <= RESTART_LEVELS
 }
 
 /// What decides which of two requirements comes first, before their candidates are counted.

@@ -732,34 +732,6 @@ fn six_pigeons_do_not_fit_into_five_holes(rt: HostRuntime) -> Result<(), Fail> {
     Ok(())
 }
 
-/// Returns clauses of which so many are learnt, one after another, and then these, of at most seven variables.
-fn after_clashes(alloc: Global, clashes: i32, clauses: &[&[i32]]) -> Result<Clauses, AllocError> {
-    let mut table = Clauses::new(alloc);
-    for clash in 0..clashes {
-        let first = clash.wrapping_mul(3).wrapping_add(8);
-        let (second, third) = (first.wrapping_add(1), first.wrapping_add(2));
-        table.push(&[literal(first), literal(second)])?;
-        table.push(&[literal(first.wrapping_neg()), literal(third)])?;
-        table.push(&[literal(first.wrapping_neg()), literal(third.wrapping_neg())])?;
-    }
-    for numbers in clauses {
-        table.push(&clause_of(alloc, numbers)?)?;
-    }
-    Ok(table)
-}
-
-/// Returns whether so many clauses are learnt, and then one of the wanted literals from these clauses.
-fn learns_after(
-    alloc: Global,
-    clashes: i32,
-    clauses: &[&[i32]],
-    wanted: &[i32],
-) -> Result<bool, AllocError> {
-    let table = after_clashes(alloc, clashes, clauses)?;
-    let count = (clashes.unsigned_abs() as usize).saturating_add(1);
-    is_done(alloc, &table, &Task::Learn(count, wanted))
-}
-
 #[test]
 fn a_learnt_clause_lacks_what_its_others_imply(rt: HostRuntime) -> Result<(), Fail> {
     // 1 forces 3, and 3 forces 4. 1 forces 7 beside 5.
@@ -771,7 +743,7 @@ fn a_learnt_clause_lacks_what_its_others_imply(rt: HostRuntime) -> Result<(), Fa
         &[-5, -1, 7],
         &[-5, -7, -3, -4],
     ];
-    assert!(rt; learns_after(rt.alloc(), 0, &both, &[-5, -1])?);
+    assert!(rt; finds(rt.alloc(), &both, &Task::Learn(1, &[-5, -1]))?);
     let last: [&[i32]; 6] = [
         &[1, 2],
         &[-1, 3],
@@ -780,9 +752,7 @@ fn a_learnt_clause_lacks_what_its_others_imply(rt: HostRuntime) -> Result<(), Fa
         &[-5, -1, 7],
         &[-5, -7, -4],
     ];
-    assert!(rt; learns_after(rt.alloc(), 0, &last, &[-5, -4, -1])?);
-    assert!(rt; learns_after(rt.alloc(), 999, &last, &[-5, -4, -1])?);
-    assert!(rt; learns_after(rt.alloc(), 1000, &last, &[-5, -1])?);
+    assert!(rt; finds(rt.alloc(), &last, &Task::Learn(1, &[-5, -4, -1]))?);
     Ok(())
 }
 

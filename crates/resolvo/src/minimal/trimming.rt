@@ -9,19 +9,11 @@ ghost use Rattle.resolvo.specs.RuleClauses.{DecideRules};
 use super::decision::Verdict;
 use super::rule_clauses::RuleClauses;
 use super::{clauses_within, verdict_of};
+use crate::tuning::{TRIM_LEARNT, TRIM_SEARCHES, TRIM_TURNS};
 use resolver_clause_store::{Exhausted, Rule};
 use std::alloc::Global;
 use std::hash::Hash;
 use std::mem::drop;
-
-/// The greatest number of searches, each over the rules that the one before used.
-const SEARCHES: usize = 3;
-
-/// The number of clauses that a search may learn. More find shorter conflicts of random rules alone.
-const LEARNT_LIMIT: usize = 500;
-
-/// The number of rules up to which each has its turn. Turns of more take long, and seldom make a message shorter.
-const MOST_TURNS: usize = 100;
 
 /// Returns the number of marked rules.
 fn marked_count(marks: &[bool]) -> usize {
@@ -48,7 +40,7 @@ fn search_again<N, S>(
     ensures refuted { OnOk result (IsRefuted (marked marks.old.items rules.now) → IsRefuted (marked marks.new.items rules.now)) }
     ensures memory { IfErr result (λ e. e ≡ Exhausted.Memory) }
 {
-    let Some(verdict) = verdict_of(alloc, rules, form, marks, LEARNT_LIMIT)? else {
+    let Some(verdict) = verdict_of(alloc, rules, form, marks, TRIM_LEARNT)? else {
         return Ok(false);
     };
     match verdict {
@@ -73,7 +65,7 @@ fn used_again<N, S>(
     ensures memory { IfErr result (λ e. e ≡ Exhausted.Memory) }
 {
     let mut marks = vec![in alloc; true; rules.len()]?;
-    'searches: for _search in 0..SEARCHES {
+    'searches: for _search in 0..TRIM_SEARCHES {
         if !search_again(alloc, rules, form, &mut marks)? {
             return Ok(marks);
         }
@@ -102,7 +94,7 @@ fn try_without<N, S>(
     }
     let mut others = Vec::from_slice(alloc, marks)?;
     others[place] = false;
-    let verdict = verdict_of(alloc, rules, form, &others, LEARNT_LIMIT)?;
+    let verdict = verdict_of(alloc, rules, form, &others, TRIM_LEARNT)?;
     if let Some(Verdict::Refuted(part)) = verdict {
         *marks = part;
     }
@@ -123,7 +115,7 @@ fn try_each<N, S>(
     ensures refuted { OnOk result (IsRefuted (marked marks.old.items rules.now) → IsRefuted (marked marks.new.items rules.now)) }
     ensures memory { IfErr result (λ e. e ≡ Exhausted.Memory) }
 {
-    if marked_count(marks) > MOST_TURNS {
+    if marked_count(marks) > TRIM_TURNS {
         return Ok(());
     }
     'turns: for place in 0..rules.len() {

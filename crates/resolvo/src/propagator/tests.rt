@@ -9,9 +9,6 @@ ghost use Rattle.resolvo.specs.Propagation.{IsJustified};
 ghost use Rattle.resolvo.specs.Propagators.{IsPropagator};
 ghost use Rattle.resolvo.specs.declared.propagator.Propagator.{Propagator};
 
-mod generalizing;
-mod strengthening;
-
 use super::*;
 use crate::scanning::propagate as scan;
 use resolver_clause_store::{Clauses, Literal, Trail, Variable, clause};

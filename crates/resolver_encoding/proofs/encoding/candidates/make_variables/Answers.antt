@@ -3,7 +3,7 @@ use Rattle.resolver_encoding.proofs.ClauseLemmas.{Grows-same, Grows-trans}
 use Rattle.resolver_encoding.proofs.encoding.candidates.make_variables.Goals as goal
 
 pub loop-candidate-init : goal.loop-candidate-init
-loop-candidate-init g c = record { bounded = c.requires.bounded; limit = refl; grows = Grows-same _; }
+loop-candidate-init g c = record { bounded = c.requires.bounded; limit = refl; grows = Grows-same _ }
 
 pub loop-candidate-preserved : goal.loop-candidate-preserved
 loop-candidate-preserved g c =

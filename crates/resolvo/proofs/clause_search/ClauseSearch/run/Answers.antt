@@ -1,6 +1,6 @@
 use Rattle.resolvo.proofs.LoadLemmas.{finished_for, problem-trans}
 use Rattle.std.proofs.Common.{◌∙◌}
-use Rattle.resolver_encoding.proofs.RefusalLemmas.{shortage_at_limit, shortage_of_memory, IfErr-of, IfErr-stop}
+use Rattle.resolver_encoding.proofs.RefusalLemmas.{shortage_at_limit, IfErr-of, IfErr-stop}
 use Rattle.std.proofs.lemmas.Result.{IfOk-from_err}
 use Rattle.resolvo.proofs.clause_search.ClauseSearch.run.Goals as goal
 
@@ -24,15 +24,9 @@ returns-in-None g c =
       refusal = tt;
     }
 
-pub learn-requires-clause-consistent : goal.learn-requires-clause-consistent
-learn-requires-clause-consistent g c = c.in_ok-generalize-in-Some.ensures.consistent
-
-pub learn-requires-clause-conflict : goal.learn-requires-clause-conflict
-learn-requires-clause-conflict g c = c.in_ok-generalize-in-Some.ensures.conflict
-
 pub returns-in-Some-2 : goal.returns-in-Some-2
 returns-in-Some-2 g c =
-    let before = problem-trans _ _ _ c.conflicts.invariant.1 (problem-trans _ _ _ c.in_ok-descend.ensures.same c.in_ok-generalize-in-Some.ensures.same) in
+    let before = problem-trans _ _ _ c.conflicts.invariant.1 c.in_ok-descend.ensures.same in
     let same = problem-trans _ _ _ before c.in_ok-outcome-in-Some.ensures.same in
     record {
       outcome = λ given numbers loaded. (rw c.in-Some-2.is at c.in_ok-outcome-in-Some.ensures.outcome) given numbers (before.loaded given numbers loaded);
@@ -48,18 +42,11 @@ pub conflicts-preserved : goal.conflicts-preserved
 conflicts-preserved g c =
     let jump = c.in_ok-restart-in-None-2.ensures in (
       jump.consistent,
-      problem-trans _ _ _ c.conflicts.invariant.1 (problem-trans _ _ _ c.in_ok-descend.ensures.same
-          (problem-trans _ _ _ c.in_ok-generalize-in-Some.ensures.same (problem-trans _ _ _ c.in_ok-outcome-in-Some.ensures.same jump.same))),
+      problem-trans _ _ _ c.conflicts.invariant.1 (problem-trans _ _ _ c.in_ok-descend.ensures.same (problem-trans _ _ _ c.in_ok-outcome-in-Some.ensures.same jump.same)),
     )
 
 pub descend-requires : goal.descend-requires
 descend-requires g c = record { consistent = c.conflicts.invariant.0 }
-
-pub generalize-requires-clause-consistent : goal.generalize-requires-clause-consistent
-generalize-requires-clause-consistent g c = c.in_ok-descend.ensures.consistent
-
-pub generalize-requires-clause-conflict : goal.generalize-requires-clause-conflict
-generalize-requires-clause-conflict g c = rw c.in-Some.is at c.in_ok-descend.ensures.conflict
 
 pub returns-in_err-descend : goal.returns-in_err-descend
 returns-in_err-descend g c =
@@ -71,18 +58,6 @@ returns-in_err-descend g c =
       kept = IfOk-from_err c.from_residual.result _ c.from_residual.ensures.0;
       turn = IfOk-from_err c.from_residual.result _ c.from_residual.ensures.0;
       refusal = IfErr-stop c.from_residual.result (g.D.DependencyProvider.may_cancel c.args.provider.now) _ _ c.from_residual.ensures.1 c.in_err-descend.ensures.refusal;
-    }
-
-pub returns-in_err-generalize-in-Some : goal.returns-in_err-generalize-in-Some
-returns-in_err-generalize-in-Some g c =
-    record {
-      outcome = IfOk-from_err c.from_residual-in_err-generalize-in-Some.result _ c.from_residual-in_err-generalize-in-Some.ensures.0;
-      consistent = IfOk-from_err c.from_residual-in_err-generalize-in-Some.result _ c.from_residual-in_err-generalize-in-Some.ensures.0;
-      loaded = IfOk-from_err c.from_residual-in_err-generalize-in-Some.result _ c.from_residual-in_err-generalize-in-Some.ensures.0;
-      variables = IfOk-from_err c.from_residual-in_err-generalize-in-Some.result _ c.from_residual-in_err-generalize-in-Some.ensures.0;
-      kept = IfOk-from_err c.from_residual-in_err-generalize-in-Some.result _ c.from_residual-in_err-generalize-in-Some.ensures.0;
-      turn = IfOk-from_err c.from_residual-in_err-generalize-in-Some.result _ c.from_residual-in_err-generalize-in-Some.ensures.0;
-      refusal = IfErr-of c.from_residual-in_err-generalize-in-Some.result _ _ c.from_residual-in_err-generalize-in-Some.ensures.1 (shortage_of_memory _ _ c.in_err-generalize-in-Some.ensures.memory);
     }
 
 pub returns-in_err-outcome-in-Some : goal.returns-in_err-outcome-in-Some
@@ -108,3 +83,9 @@ returns-in_err-restart-in-None-2 g c =
       turn = IfOk-from_err c.from_residual-in_err-restart-in-None-2.result _ c.from_residual-in_err-restart-in-None-2.ensures.0;
       refusal = IfErr-stop c.from_residual-in_err-restart-in-None-2.result (g.D.DependencyProvider.may_cancel c.args.provider.now) _ _ c.from_residual-in_err-restart-in-None-2.ensures.1 c.in_err-restart-in-None-2.ensures.refusal;
     }
+
+pub learn-requires-clause-consistent : goal.learn-requires-clause-consistent
+learn-requires-clause-consistent g c = c.in_ok-descend.ensures.consistent
+
+pub learn-requires-clause-conflict : goal.learn-requires-clause-conflict
+learn-requires-clause-conflict g c = rw c.in-Some.is at c.in_ok-descend.ensures.conflict

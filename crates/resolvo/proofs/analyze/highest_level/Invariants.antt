@@ -1,5 +1,0 @@
-use Rattle.resolvo.proofs.LevelLemmas.{HighestSo}
-use Rattle.resolvo.proofs.analyze.highest_level.Given as goal
-
-abbrev pub invariant-literals : goal.invariant-literals
-invariant-literals l = HighestSo l.trail l.clause l.literal-index l.level

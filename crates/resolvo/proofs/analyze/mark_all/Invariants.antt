@@ -1,8 +1,0 @@
-use Rattle.std.proofs.Common.{take}
-use Rattle.resolvo.specs.Resolvents.{ListsMarks, MarksAlso}
-use Rattle.resolvo.proofs.analyze.mark_all.Given as goal
-
-abbrev pub invariant-literals : goal.invariant-literals
-invariant-literals l =
-    MarksAlso l.initial.marks.items l.marks.items (take l.literal-index l.clause) ×
-    (ListsMarks l.initial.marks.items l.initial.marked.items → ListsMarks l.marks.items l.marked.items)

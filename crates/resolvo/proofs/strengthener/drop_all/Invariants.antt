@@ -1,9 +1,0 @@
-use Rattle.std.proofs.Common.{◌≡◌}
-use Rattle.resolver_clause_store.specs.TrailView.{length_of}
-use Rattle.resolvo.specs.Resolvents.{IsLevelled, IsResolvent}
-use Rattle.resolvo.proofs.strengthener.drop_all.Given as goal
-
-abbrev pub invariant-implications : goal.invariant-implications
-invariant-implications l =
-    IsResolvent l.table l.trail l.resolvent × IsLevelled l.trail l.resolvent (length_of l.trail) ×
-    (l.resolvent.level ≡ l.initial.resolvent.level) × (l.resolvent.lowest ≡ l.initial.resolvent.lowest)
