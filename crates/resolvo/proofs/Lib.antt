@@ -3,7 +3,6 @@ pub mod PropagatorLemmas
 pub mod VisitLemmas
 pub mod TwoLiteralLemmas
 pub mod AttachingLemmas
-pub mod PendingLemmas
 pub mod WatchedLemmas
 pub mod ReturningLemmas
 pub mod StoredSourceLemmas

@@ -37,20 +37,20 @@ all_used {N} {S} rules marks is refuted = let P : List (Rule N S) → Type 0 = �
 -- copies of the marked rules, without those about anything that is not reached
 module _ {N S : Type 0} (rules : List (Rule N S)) (marks : List Bool) (copies kept : List (Rule N S))
     (same : AllZip StatesTheSame (marked marks rules) copies) (leaves : LeavesKept copies kept) where
-  pub refined_part : CopiesPart rules kept
-  refined_part =
+  pub trimmed_part : CopiesPart rules kept
+  trimmed_part =
       let first = marked_cut marks rules in
       let second = cut_zip StatesTheSame (marked marks rules) leaves.cut same in
       let whole = cut_again first.1 second.2 in
       record { left = second.0; dropped = whole.0; cut = whole.1; same = second.3 }
 
-  pub refined_refuted : (IsRefuted rules → IsRefuted (marked marks rules)) → (IsRefuted copies → IsRefuted kept) → IsRefuted rules → IsRefuted kept
-  refined_refuted used stays refuted = stays (IsRefuted-same (marked marks rules) copies same (used refuted))
+  pub trimmed_refuted : (IsRefuted rules → IsRefuted (marked marks rules)) → (IsRefuted copies → IsRefuted kept) → IsRefuted rules → IsRefuted kept
+  trimmed_refuted used stays refuted = stays (IsRefuted-same (marked marks rules) copies same (used refuted))
 
-  pub refined_explains : (IsRefuted rules → IsRefuted (marked marks rules)) → (IsRefuted copies → IsRefuted kept) → All (IsKept kept) kept →
+  pub trimmed_explains : (IsRefuted rules → IsRefuted (marked marks rules)) → (IsRefuted copies → IsRefuted kept) → All (IsKept kept) kept →
       (u : Universe N S) (root : Demands) → Explains u root rules → Explains u root kept
-  refined_explains used stays again u root explains = record {
-    each_true = AllTrue-same u root refined_part.left kept refined_part.same (All-left (IsTrueRule u root) refined_part.cut explains.each_true);
-    refuted = refined_refuted used stays explains.refuted;
+  trimmed_explains used stays again u root explains = record {
+    each_true = AllTrue-same u root trimmed_part.left kept trimmed_part.same (All-left (IsTrueRule u root) trimmed_part.cut explains.each_true);
+    refuted = trimmed_refuted used stays explains.refuted;
     each_reached = again;
   }

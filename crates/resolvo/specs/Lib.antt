@@ -9,12 +9,10 @@ pub mod ChainProvider
 pub mod Propagation
 pub mod Propagators
 pub mod Visits
-pub mod PendingClauses
 pub mod Attaching
 pub mod Returning
 pub mod WatchedClauses
 pub mod Resolvents
-pub mod Places
 pub mod Sources
 pub mod Steps
 pub mod Derivations

@@ -1,5 +1,5 @@
 -- Where the clauses of a search's table come from.
-use Rattle.std.specs.Prelude.{ℕ, ◌+◌, ◌<◌, ⊤, List, [], Vec, map, slice_get}
+use Rattle.std.specs.Prelude.{ℕ, ◌<◌, ⊤, List, [], Vec, map, slice_get}
 use Rattle.std.specs.Option.{option_map_or}
 use Rattle.std.specs.declared.alloc.Global.{Global}
 use Rattle.resolvo.specs.declared.sources.StoredSource.{StoredSource}
@@ -19,15 +19,3 @@ source_in causes (Learnt list) = learnt_from (option_map_or (λ (one : Vec ℕ G
 abbrev pub HasCauses : ℕ → StoredSource → Type 0
 HasCauses count (Given number) = ⊤
 HasCauses count (Learnt list) = list < count
-
--- the stored source that is this many steps after another
-abbrev pub after : StoredSource → ℕ → StoredSource
-after (Given number) steps = Given (number + steps)
-after (Learnt list) steps = Learnt (list + steps)
-
-abbrev pub stored_after : StoredSource × ℕ → StoredSource
-stored_after entry = after entry.0 entry.1
-
--- the stored sources of these entries
-abbrev pub stored_in : List (StoredSource × ℕ) → List StoredSource
-stored_in entries = map stored_after entries

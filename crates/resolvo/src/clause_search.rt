@@ -521,9 +521,11 @@ impl ClauseSearch {
         ensures refusal { IfErr result (IsInterruption (D.may_cancel provider.now)) }
     {
         check_cancel(provider)?;
-        if let Some(number) =
-            apply_all_pending(&mut self.trail, &self.table, &mut self.propagator)?
-        {
+        if let Some(number) = apply_all_pending(
+            &mut self.trail,
+            &self.table,
+            &mut self.propagator,
+        )? {
             return Ok(Step::Conflict(number));
         }
         if let Some(number) = propagate(&mut self.trail, &self.table, &mut self.propagator)? {

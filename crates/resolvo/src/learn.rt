@@ -11,9 +11,9 @@ ghost use Rattle.resolvo.specs.Propagation.{IsConflict, IsJustified};
 ghost use Rattle.resolvo.specs.Resolvents.{AnalysisIs};
 
 pub use clause::{Learnt, asserted_level};
-pub use resolve::{BlankMarks, highest_level};
 use clause::{backtrack_level, literals_of, negation_of, sort_by_age};
 use minimize::minimize;
+pub use resolve::{BlankMarks, highest_level};
 use resolve::{begin, resolve_level, unmark_all};
 use resolver_clause_store::{Clauses, Trail};
 use std::alloc::{AllocError, Global};

@@ -19,9 +19,9 @@ mod rounds;
 mod scanning;
 mod solver;
 mod sources;
-mod tuning;
 #[cfg(test)]
 mod test_provider;
+mod tuning;
 
 pub use conflict::Conflict;
 pub use problem::{EmptySolvables, Problem};

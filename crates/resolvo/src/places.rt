@@ -1,41 +1,23 @@
 //! The places of given clauses.
 
-ghost use Rattle.std.specs.Option.{option_map};
-ghost use Rattle.std.specs.Prelude.{◌<◌, ◌≡◌, ◌≢◌, ◌++◌, ◌∷◌, [], MatchBool, OnErr, OnOk, Some, length, slice_index};
-ghost use Rattle.resolver_encoding.specs.Runs.{next_of};
-ghost use Rattle.resolvo.specs.Places.{place_after};
+ghost use Rattle.std.specs.Prelude.{◌<◌, ◌≡◌, ◌++◌, ◌∷◌, [], OnErr, OnOk, length, slice_index};
 
 use resolver_clause_store::narrow;
-use resolver_encoding::Runs;
 use std::alloc::{AllocError, Global};
 use std::marker::Model;
 
 /// The place of each given clause in a search's table, by its number. In contracts, they are the list of the places.
-///
-/// Clauses that are loaded one after another are at consecutive places, and take eight bytes together.
 #[derive(Drop)]
 pub struct Places {
-    runs: Runs<u32>,
+    places: Vec<u32>,
 }
 
 impl Model for Places {
     ghost use Rattle.std.specs.Prelude.{ℕ, List};
-    ghost use Rattle.resolvo.specs.Places.{places_in};
 
     ghost Value = { List ℕ };
 
-    ghost view = { λ p. places_in p.runs };
-}
-
-/// Returns whether a place is the one that comes after the last of these.
-fn goes_on(runs: &Runs<u32>, place: usize) -> bool
-    ensures { MatchBool result (option_map place_after (next_of runs.now) ≡ Some place)
-        (option_map place_after (next_of runs.now) ≢ Some place) }
-{
-    match runs.next() {
-        Some((start, steps)) => start as usize + steps == place,
-        None => false,
-    }
+    ghost view = { λ p. p.places.items };
 }
 
 impl Places {
@@ -44,7 +26,7 @@ impl Places {
         ensures { result ≡ [] }
     {
         Places {
-            runs: Runs::new(alloc),
+            places: Vec::new(alloc),
         }
     }
 
@@ -52,7 +34,7 @@ impl Places {
     pub fn len(&self) -> usize
         ensures { result ≡ length self.now }
     {
-        self.runs.len()
+        self.places.len()
     }
 
     /// Appends a place. An error changes nothing.
@@ -60,11 +42,7 @@ impl Places {
         ensures added { OnOk result (self.new ≡ self.old ++ place ∷ []) }
         ensures unchanged { OnErr result (self.new ≡ self.old) }
     {
-        if goes_on(&self.runs, place) {
-            self.runs.go_on()?;
-            return Ok(());
-        }
-        self.runs.begin(narrow(place)?)?;
+        self.places.push(narrow(place)?)?;
         Ok(())
     }
 
@@ -73,7 +51,6 @@ impl Places {
         requires { number < length self.now }
         ensures { result ≡ slice_index self.now number }
     {
-        let (start, steps) = self.runs.at(number);
-        start as usize + steps
+        self.places[number] as usize
     }
 }

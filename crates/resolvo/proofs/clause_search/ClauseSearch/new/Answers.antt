@@ -15,7 +15,7 @@ returns-clause-consistent c = record {
   kept = search rules;
   propagator = rw c.new.ensures (c.empty-2.ensures c.empty.result c.empty.ensures.size);
   turn = search rules;
-  queued = rw c.new-3.ensures.items (c.new-9.ensures c.empty.result c.new.result);
+  queued = rw c.new-3.ensures.items (c.new-6.ensures c.empty.result c.new.result);
 }
 
 pub returns-clause-variables : goal.returns-clause-variables

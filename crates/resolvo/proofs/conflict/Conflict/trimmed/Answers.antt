@@ -1,4 +1,4 @@
-use Rattle.resolvo.proofs.TrimmedLemmas.{trimmed_explains, trimmed_part, trimmed_refuted}
+use Rattle.resolvo.proofs.TrimmedLemmas.{trimmed_explains}
 use Rattle.resolvo.specs.Conflicts.{rules_in}
 use Rattle.std.proofs.Common.{ap, length, sym, ◌∙◌}
 use Rattle.std.proofs.lemmas.Result.{IfOk-from_err}
@@ -8,11 +8,6 @@ use Rattle.resolvo.proofs.conflict.Conflict.trimmed.Goals as goal
 pub returns : goal.returns
 returns g c =
     record {
-      part = trimmed_part (rules_in c.args.self.now) c.in_ok-marks.marks.items c.in_ok-copies.copies.items c.in_ok-rules.rules.items
-          (rw (c.deref.ensures.value, c.rules-2.ensures) at c.in_ok-copies.ensures.same) c.in_ok-rules.ensures.left;
-      refuted = trimmed_refuted (rules_in c.args.self.now) c.in_ok-marks.marks.items c.in_ok-copies.copies.items c.in_ok-rules.rules.items
-          (rw (c.deref.ensures.value, c.rules-2.ensures) at c.in_ok-copies.ensures.same) c.in_ok-rules.ensures.left
-          (rw c.rules.ensures at c.in_ok-marks.ensures.refuted) c.in_ok-rules.ensures.refuted;
       explains = trimmed_explains (rules_in c.args.self.now) c.in_ok-marks.marks.items c.in_ok-copies.copies.items c.in_ok-rules.rules.items
           (rw (c.deref.ensures.value, c.rules-2.ensures) at c.in_ok-copies.ensures.same) c.in_ok-rules.ensures.left
           (rw c.rules.ensures at c.in_ok-marks.ensures.refuted) c.in_ok-rules.ensures.refuted c.in_ok-rules.ensures.again;
@@ -22,8 +17,6 @@ returns g c =
 pub returns-in_err-marks : goal.returns-in_err-marks
 returns-in_err-marks g c =
     record {
-      part = IfOk-from_err c.from_residual.result _ c.from_residual.ensures.0;
-      refuted = IfOk-from_err c.from_residual.result _ c.from_residual.ensures.0;
       explains = IfOk-from_err c.from_residual.result _ c.from_residual.ensures.0;
       memory = IfErr-of c.from_residual.result _ _ c.from_residual.ensures.1 c.in_err-marks.ensures.memory;
     }
@@ -31,8 +24,6 @@ returns-in_err-marks g c =
 pub returns-in_err-copies : goal.returns-in_err-copies
 returns-in_err-copies g c =
     record {
-      part = IfOk-from_err c.from_residual-in_err-copies.result _ c.from_residual-in_err-copies.ensures.0;
-      refuted = IfOk-from_err c.from_residual-in_err-copies.result _ c.from_residual-in_err-copies.ensures.0;
       explains = IfOk-from_err c.from_residual-in_err-copies.result _ c.from_residual-in_err-copies.ensures.0;
       memory = IfErr-of c.from_residual-in_err-copies.result _ _ c.from_residual-in_err-copies.ensures.1 c.in_err-copies.ensures.memory;
     }
@@ -40,8 +31,6 @@ returns-in_err-copies g c =
 pub returns-in_err-rules : goal.returns-in_err-rules
 returns-in_err-rules g c =
     record {
-      part = IfOk-from_err c.from_residual-in_err-rules.result _ c.from_residual-in_err-rules.ensures.0;
-      refuted = IfOk-from_err c.from_residual-in_err-rules.result _ c.from_residual-in_err-rules.ensures.0;
       explains = IfOk-from_err c.from_residual-in_err-rules.result _ c.from_residual-in_err-rules.ensures.0;
       memory = IfErr-of c.from_residual-in_err-rules.result _ _ c.from_residual-in_err-rules.ensures.1 c.in_err-rules.ensures.memory;
     }
