@@ -3,7 +3,7 @@
 ghost use Rattle.std.specs.Prelude.{◌<◌, ◌≡◌, IfErr, IfOk, IfSome, OnOk, length};
 ghost use Rattle.resolver_clause_store.specs.Laws.{IsIdentity};
 ghost use Rattle.resolver_clause_store.specs.Rules.{IsRefuted};
-ghost use Rattle.resolvo.specs.Minimal.{marked};
+ghost use Rattle.resolvo.specs.Minimal.{IsRefutedPart, marked};
 ghost use Rattle.resolvo.specs.RuleClauses.{DecideRules};
 
 use super::decision::Verdict;
@@ -26,8 +26,29 @@ fn are_far_fewer(before: &[bool], after: &[bool]) -> bool {
     count.saturating_sub(marked_count(after)).saturating_mul(10) >= count
 }
 
-/// Searches over the clauses of the marked rules, and keeps the marks of the rules that it used. If it finds a set or
-/// gives up, the marks stay. Returns whether a further search may be worth its time.
+/// Searches over the clauses of the marked rules, and returns the marks of the rules that it used, if it finds that no set obeys
+/// them. `None` if one does, or if the search would learn too many clauses.
+fn used_rules<N, S>(
+    alloc: Global,
+    rules: &[Rule<N, S>],
+    form: &Option<RuleClauses>,
+    marks: &[bool],
+) -> Result<Option<Vec<bool>>, Exhausted>
+    requires size { length marks.now ≡ length rules.now }
+    requires form { IfSome form.now (λ form. DecideRules rules.now form.variables form.clauses.items) }
+    ensures part { IfOk result (λ answer. IfSome answer (λ used. IsRefutedPart rules.now marks.now used.items)) }
+    ensures memory { IfErr result (λ e. e ≡ Exhausted.Memory) }
+{
+    let Some(verdict) = verdict_of(alloc, rules, form, marks, TRIM_LEARNT)? else {
+        return Ok(None);
+    };
+    match verdict {
+        Verdict::Refuted(used) => Ok(Some(used)),
+        Verdict::Obeyed(_) => Ok(None),
+    }
+}
+
+/// Keeps the marks of the rules that a search over the marked ones uses. Returns whether a further search may be worth its time.
 fn search_again<N, S>(
     alloc: Global,
     rules: &[Rule<N, S>],
@@ -40,16 +61,13 @@ fn search_again<N, S>(
     ensures refuted { OnOk result (IsRefuted (marked marks.old.items rules.now) → IsRefuted (marked marks.new.items rules.now)) }
     ensures memory { IfErr result (λ e. e ≡ Exhausted.Memory) }
 {
-    let Some(verdict) = verdict_of(alloc, rules, form, marks, TRIM_LEARNT)? else {
-        return Ok(false);
-    };
-    match verdict {
-        Verdict::Refuted(part) => {
-            let goes_on = are_far_fewer(marks, &part);
-            *marks = part;
+    match used_rules(alloc, rules, form, marks)? {
+        Some(used) => {
+            let goes_on = are_far_fewer(marks, &used);
+            *marks = used;
             Ok(goes_on)
         }
-        Verdict::Obeyed(_) => Ok(false),
+        None => Ok(false),
     }
 }
 
@@ -73,8 +91,7 @@ fn used_again<N, S>(
     Ok(marks)
 }
 
-/// Leaves out the rule at a place, if a search finds that no set obeys the others that are marked. If it finds a set or
-/// gives up, the marks stay.
+/// Leaves out the rule at a place, if a search finds that no set obeys the others that are marked.
 fn try_without<N, S>(
     alloc: Global,
     rules: &[Rule<N, S>],
@@ -94,11 +111,13 @@ fn try_without<N, S>(
     }
     let mut others = Vec::from_slice(alloc, marks)?;
     others[place] = false;
-    let verdict = verdict_of(alloc, rules, form, &others, TRIM_LEARNT)?;
-    if let Some(Verdict::Refuted(part)) = verdict {
-        *marks = part;
+    match used_rules(alloc, rules, form, &others)? {
+        Some(used) => {
+            *marks = used;
+            Ok(())
+        }
+        None => Ok(()),
     }
-    Ok(())
 }
 
 /// Gives each marked rule its turn, first to last, if there are few of them: it is left out if a search finds that no set
