@@ -39,7 +39,7 @@ use Rattle.resolver_encoding.proofs.PromiseLemmas.{finished_is_first}
 use Rattle.resolver_encoding.proofs.TrailLemmas.{same_before, same_origin}
 use Rattle.resolvo.specs.ClauseSearches.{IsConsistent, IsLoaded, KeepsTurn, SetsNone, StaysBookmarked, clause_count_of, held_of, kept_of, learnt_count_of}
 use Rattle.resolvo.specs.ClauseSearches.{trail_of}
-use Rattle.resolvo.specs.RoundStates.{AreRounds, GoesOn, HasAllClauses, HasFollowed, IsAnswering, IsFollowing, IsSearchOf, IsStill, IsUpToDate, KeepsNear}
+use Rattle.resolvo.specs.RoundStates.{AreRounds, GoesOn, HasFollowed, IsAnswering, IsFollowing, IsSearchOf, IsStill, IsUpToDate, KeepsNear}
 use Rattle.resolvo.specs.RoundStates.{chosen_of, notes_of}
 use Rattle.resolvo.specs.declared.clause_search.ClauseSearch.{ClauseSearch}
 use Rattle.resolvo.specs.declared.rounds.Rounds.{Rounds}
@@ -250,14 +250,6 @@ module _ {N S : Type 0} where
         answer = subst OfChosen (sym followed.chosen) (subst OfTrail (sym followed.trail) (subst OfNotes (sym same) answer));
         promise = subst PromisesFor (sym followed.chosen) (subst PromisesOn (sym followed.trail) (subst PromisesOf (sym same) promise));
       }
-
-  -- the clauses of the search are those that were read, and the learnt ones
-  pub all_clauses : (u : Universe N S) (r : Rounds N S) → AreRounds u r → IsUpToDate r → HasAllClauses r
-  all_clauses u r rounds up = omega (arith, rounds.consistent.count, up.loaded.clauses.count, rounds.reading.so_far.half.encoding.encoded.count)
-
-  pub still_all : (old new : Rounds N S) → length (notes_of new).kinds ≡ length (notes_of old).kinds → clause_count_of new.search ≡ clause_count_of old.search →
-      learnt_count_of new.search ≡ learnt_count_of old.search → HasAllClauses old → HasAllClauses new
-  still_all old new kinds clauses learnt all = omega (arith, kinds, clauses, learnt, all)
 
   pub goes_begin : (u : Universe N S) (r : Rounds N S) → GoesOn u r r
   goes_begin u r = record {

@@ -234,10 +234,6 @@ module _ {N S : Type 0} where
     pub within : from ≤ length (chosen_of new)
     pub earlier : IsWithin (take from (chosen_of new)) (chosen_of old)
 
-  -- the clauses of the search are those that were read and the learnt ones
-  abbrev pub HasAllClauses : Rounds N S → Type 0
-  HasAllClauses r = clause_count_of r.search ≡ length (notes_of r).kinds + learnt_count_of r.search
-
   -- The chosen solvables are an answer for which the seeds need no requirer, if only they are assumed true and the
   -- refused solvables false. Without assumptions the answer takes the first choices.
   pub record IsAnswering (u : Universe N S) (r : Rounds N S) : Type 0 where
@@ -276,7 +272,7 @@ module _ {N S : Type 0} where
 
   -- each round except the last leaves fewer deferred disjuncts or has read more
   abbrev pub IsRound : Universe N S → Rounds N S → Rounds N S → Round → Type 0
-  IsRound u old new (Last found) = IsFound u new found × HasAllClauses new
+  IsRound u old new (Last found) = IsFound u new found
   IsRound u old new Fired = ((notes_of new).read ≡ (notes_of old).read) × (left_count (notes_of new) < left_count (notes_of old))
   IsRound u old new Read = (length (notes_of old).read < length (notes_of new).read) × (length (notes_of new).read ≤ (notes_of new).variable_limit)
 

@@ -65,7 +65,7 @@ pub struct Rounds<N: Copy + Eq + Hash + Drop, S: Copy + Eq + Hash + Drop> {
 }
 
 impl<N: Copy + Eq + Hash + Drop, S: Copy + Eq + Hash + Drop> Rounds<N, S> {
-    ghost use Rattle.resolvo.specs.RoundStates.{AreRounds, GoesOn, HasAllClauses, HasFollowed, HasBookmark, HasAssumed, HasTurned, IsAnswering, IsDone};
+    ghost use Rattle.resolvo.specs.RoundStates.{AreRounds, GoesOn, HasFollowed, HasBookmark, HasAssumed, HasTurned, IsAnswering, IsDone};
     ghost use Rattle.resolvo.specs.RoundStates.{IsFollowing, IsRefusing, IsFound, IsFresh, IsStill, IsRound, IsSearchOf, IsStuck, IsUnanswered, IsUpToDate};
     ghost use Rattle.resolvo.specs.RoundStates.{IsStanding, KeepsEncoding, KeepsRoom};
     ghost use Rattle.resolvo.specs.RoundStates.{chosen_of, clause_limit_of, learnt_limit_of, notes_of, search_of};
@@ -145,7 +145,6 @@ impl<N: Copy + Eq + Hash + Drop, S: Copy + Eq + Hash + Drop> Rounds<N, S> {
         ensures same { IsSearchOf self.old self.new }
         ensures turn { OnOk result (KeepsTurn (search_of self.old) (search_of self.new)) }
         ensures still { OnOk result (IsStill self.old → IsStill self.new) }
-        ensures counted { OnOk result (HasAllClauses self.new) }
         ensures limits { KeepsRoom self.old self.new }
         ensures memory { IfErr result (λ e. e ≡ Exhausted.Memory) }
     {
@@ -345,7 +344,6 @@ impl<N: Copy + Eq + Hash + Drop, S: Copy + Eq + Hash + Drop> Rounds<N, S> {
         ensures rounds { OnOk result (AreRounds (D.universe provider.now) self.new) }
         ensures keeps { OnOk result (GoesOn (D.universe provider.now) self.old self.new) }
         ensures found { IfOk result (λ answer. IfSome answer (IsFound (D.universe provider.now) self.new)) }
-        ensures counted { IfOk result (λ answer. IfSome answer (λ _. HasAllClauses self.new)) }
         ensures read { IfOk result (λ answer. IfNone answer (length (notes_of self.old).read < length (notes_of self.new).read)) }
         ensures fit { IfOk result (λ answer. IfNone answer (length (notes_of self.new).read ≤ (notes_of self.new).variable_limit)) }
         ensures limits { KeepsRoom self.old self.new }
@@ -372,7 +370,6 @@ impl<N: Copy + Eq + Hash + Drop, S: Copy + Eq + Hash + Drop> Rounds<N, S> {
         ensures rounds { OnOk result (AreRounds (D.universe provider.now) self.new) }
         ensures keeps { OnOk result (GoesOn (D.universe provider.now) self.old self.new) }
         ensures found { IfOk result (IsFound (D.universe provider.now) self.new) }
-        ensures counted { OnOk result (HasAllClauses self.new) }
         ensures limits { KeepsRoom self.old self.new }
         ensures refusal { IfErr result (IsStop (D.may_cancel provider.now) (IsStuck self.new)) }
     {
@@ -400,7 +397,6 @@ impl<N: Copy + Eq + Hash + Drop, S: Copy + Eq + Hash + Drop> Rounds<N, S> {
         ensures is_true { IsTrueCache (D.universe provider.now) cache.new }
         ensures rounds { OnOk result (AreRounds (D.universe provider.now) self.new) }
         ensures still { OnOk result (IsStill self.new) }
-        ensures counted { OnOk result (HasAllClauses self.new) }
         ensures refused { OnOk result (IsRefusing (D.universe provider.now) variable exempt self.old self.new) }
         ensures limits { KeepsRoom self.old self.new }
         ensures refusal { IfErr result (IsStop (D.may_cancel provider.now) (IsStuck self.new)) }
@@ -427,7 +423,6 @@ impl<N: Copy + Eq + Hash + Drop, S: Copy + Eq + Hash + Drop> Rounds<N, S> {
         ensures is_true { IsTrueCache (D.universe provider.now) cache.new }
         ensures rounds { OnOk result (AreRounds (D.universe provider.now) self.new) }
         ensures keeps { OnOk result (GoesOn (D.universe provider.now) self.old self.new) }
-        ensures counted { OnOk result (HasAllClauses self.new) }
         ensures answer { IfOk result (λ answered. answered ≡ true → IsAnswering (D.universe provider.now) self.new) }
         ensures unanswered { IfOk result (λ answered. answered ≡ false → IsUnanswered self.new) }
         ensures limits { KeepsRoom self.old self.new }
@@ -458,7 +453,6 @@ impl<N: Copy + Eq + Hash + Drop, S: Copy + Eq + Hash + Drop> Rounds<N, S> {
         ensures is_true { IsTrueCache (D.universe provider.now) cache.new }
         ensures rounds { OnOk result (AreRounds (D.universe provider.now) self.new) }
         ensures still { OnOk result (IsStill self.new) }
-        ensures counted { OnOk result (HasAllClauses self.new) }
         ensures turned { IfOk result (λ is_chosen.
             (root : Demands) (taken refused seeds : List S) (packages : List N) → Contains (notes_of self.old).seen solvable → Contains seeds solvable →
             IsStanding (D.universe provider.now) root taken refused seeds packages self.old →
@@ -494,7 +488,6 @@ impl<N: Copy + Eq + Hash + Drop, S: Copy + Eq + Hash + Drop> Rounds<N, S> {
         ensures is_true { IsTrueCache (D.universe provider.now) cache.new }
         ensures rounds { OnOk result (AreRounds (D.universe provider.now) self.new) }
         ensures still { OnOk result (IsStill self.new) }
-        ensures counted { OnOk result (HasAllClauses self.new) }
         ensures turned { IfOk result (λ is_chosen.
             (root : Demands) (taken refused seeds : List S) (packages : List N) → Contains seeds solvable →
             IsStanding (D.universe provider.now) root taken refused seeds packages self.old →
@@ -533,7 +526,6 @@ impl<N: Copy + Eq + Hash + Drop, S: Copy + Eq + Hash + Drop> Rounds<N, S> {
             (items : List S) × (found ≡ FoundAnswer → AreItems I.next_gives soft items) ×
             IsDone (D.universe provider.now) (record { requirements = requirements.now; constraints = constraints.now })
             (map SoftSolvable items ++ list.now) self.new found) }
-        ensures counted { OnOk result (HasAllClauses self.new) }
         ensures table { OnOk result (length (notes_of self.new).table ≡ length (notes_of self.new).kinds) }
         ensures limits { KeepsRoom self.old self.new }
         ensures refusal { IfErr result (IsStop (D.may_cancel provider.now) (IsStuck self.new)) }

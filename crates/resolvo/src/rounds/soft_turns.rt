@@ -34,7 +34,7 @@ fn has_any<T: Eq + Hash>(set: &IndexSet<T>, list: &[T]) -> bool
 }
 
 impl<N: Copy + Eq + Hash + Drop, S: Copy + Eq + Hash + Drop> Rounds<N, S> {
-    ghost use Rattle.resolvo.specs.RoundStates.{AreRounds, HasAllClauses, HaveTurned, IsBetween, IsStanding, IsStill, IsStuck};
+    ghost use Rattle.resolvo.specs.RoundStates.{AreRounds, HaveTurned, IsBetween, IsStanding, IsStill, IsStuck};
     ghost use Rattle.resolvo.specs.RoundStates.{KeepsRoom, chosen_of, notes_of};
 
     /// Gives candidates of asked packages their turns until one is accepted. Returns whether one is.
@@ -46,14 +46,12 @@ impl<N: Copy + Eq + Hash + Drop, S: Copy + Eq + Hash + Drop> Rounds<N, S> {
     ) -> Result<bool, Interrupted<D::Cancel>>
         requires rounds { AreRounds (D.universe provider.now) self.old }
         requires still { IsStill self.old }
-        requires counted { HasAllClauses self.old }
         requires is_true { IsTrueCache (D.universe provider.now) cache.old }
         requires asked { All (λ s. Contains (notes_of self.old).asked ((D.universe provider.now).name s)) candidates.now }
         requires none { Meets candidates.now (chosen_of self.old) → ⊥ }
         ensures is_true { IsTrueCache (D.universe provider.now) cache.new }
         ensures rounds { OnOk result (AreRounds (D.universe provider.now) self.new) }
         ensures still { OnOk result (IsStill self.new) }
-        ensures counted { OnOk result (HasAllClauses self.new) }
         ensures turned { IfOk result (λ is_chosen.
             (root : Demands) (taken refused seeds : List S) (packages : List N) → IsWithin candidates.now seeds →
             IsStanding (D.universe provider.now) root taken refused seeds packages self.old →
@@ -82,7 +80,6 @@ impl<N: Copy + Eq + Hash + Drop, S: Copy + Eq + Hash + Drop> Rounds<N, S> {
         ensures is_true { IsTrueCache (D.universe provider.now) cache.new }
         ensures rounds { OnOk result (AreRounds (D.universe provider.now) self.new) }
         ensures still { OnOk result (IsStill self.new) }
-        ensures counted { OnOk result (HasAllClauses self.new) }
         ensures chosen { OnOk result (chosen_of self.new ≡ chosen_of self.old) }
         ensures alone { OnOk result (AsksOnly (D.universe provider.now) ((D.universe provider.now).version_set_name version_set) (notes_of self.old)
             (notes_of self.new)) }
@@ -109,12 +106,10 @@ impl<N: Copy + Eq + Hash + Drop, S: Copy + Eq + Hash + Drop> Rounds<N, S> {
     ) -> Result<(), Interrupted<D::Cancel>>
         requires rounds { AreRounds (D.universe provider.now) self.old }
         requires still { IsStill self.old }
-        requires counted { HasAllClauses self.old }
         requires is_true { IsTrueCache (D.universe provider.now) cache.old }
         ensures is_true { IsTrueCache (D.universe provider.now) cache.new }
         ensures rounds { OnOk result (AreRounds (D.universe provider.now) self.new) }
         ensures still { OnOk result (IsStill self.new) }
-        ensures counted { OnOk result (HasAllClauses self.new) }
         ensures between { OnOk result ((root : Demands) (done : List (SoftRequirementOf S)) → IsBetween (D.universe provider.now) root done self.old →
             IsBetween (D.universe provider.now) root (done ++ Matching version_set ∷ []) self.new) }
         ensures limits { KeepsRoom self.old self.new }
@@ -138,12 +133,10 @@ impl<N: Copy + Eq + Hash + Drop, S: Copy + Eq + Hash + Drop> Rounds<N, S> {
     ) -> Result<(), Interrupted<D::Cancel>>
         requires rounds { AreRounds (D.universe provider.now) self.old }
         requires still { IsStill self.old }
-        requires counted { HasAllClauses self.old }
         requires is_true { IsTrueCache (D.universe provider.now) cache.old }
         ensures is_true { IsTrueCache (D.universe provider.now) cache.new }
         ensures rounds { OnOk result (AreRounds (D.universe provider.now) self.new) }
         ensures still { OnOk result (IsStill self.new) }
-        ensures counted { OnOk result (HasAllClauses self.new) }
         ensures between { OnOk result ((root : Demands) (done : List (SoftRequirementOf S)) → IsBetween (D.universe provider.now) root done self.old →
             IsBetween (D.universe provider.now) root (done ++ requirement ∷ []) self.new) }
         ensures limits { KeepsRoom self.old self.new }
@@ -175,12 +168,10 @@ impl<N: Copy + Eq + Hash + Drop, S: Copy + Eq + Hash + Drop> Rounds<N, S> {
         requires ends { IsFinite (I.remaining soft) }
         requires rounds { AreRounds (D.universe provider.now) self.old }
         requires still { IsStill self.old }
-        requires counted { HasAllClauses self.old }
         requires is_true { IsTrueCache (D.universe provider.now) cache.old }
         ensures is_true { IsTrueCache (D.universe provider.now) cache.new }
         ensures rounds { OnOk result (AreRounds (D.universe provider.now) self.new) }
         ensures still { OnOk result (IsStill self.new) }
-        ensures counted { OnOk result (HasAllClauses self.new) }
         ensures between { OnOk result ((root : Demands) → IsBetween (D.universe provider.now) root [] self.old → (items : List S) ×
             Drains I.next_gives soft items × IsBetween (D.universe provider.now) root (map SoftSolvable items) self.new) }
         ensures limits { KeepsRoom self.old self.new }
@@ -201,11 +192,9 @@ impl<N: Copy + Eq + Hash + Drop, S: Copy + Eq + Hash + Drop> Rounds<N, S> {
     ) -> Result<(), Interrupted<D::Cancel>>
         requires rounds { AreRounds (D.universe provider.now) self.old }
         requires still { IsStill self.old }
-        requires counted { HasAllClauses self.old }
         requires is_true { IsTrueCache (D.universe provider.now) cache.old }
         ensures is_true { IsTrueCache (D.universe provider.now) cache.new }
         ensures rounds { OnOk result (AreRounds (D.universe provider.now) self.new) }
-        ensures counted { OnOk result (HasAllClauses self.new) }
         ensures between { OnOk result ((root : Demands) (done : List (SoftRequirementOf S)) → IsBetween (D.universe provider.now) root done self.old →
             IsBetween (D.universe provider.now) root (done ++ list.now) self.new) }
         ensures limits { KeepsRoom self.old self.new }
@@ -228,12 +217,10 @@ impl<N: Copy + Eq + Hash + Drop, S: Copy + Eq + Hash + Drop> Rounds<N, S> {
         requires ends { IfSome soft (λ it. IsFinite (I.remaining it)) }
         requires rounds { AreRounds (D.universe provider.now) self.old }
         requires still { IsStill self.old }
-        requires counted { HasAllClauses self.old }
         requires is_true { IsTrueCache (D.universe provider.now) cache.old }
         ensures is_true { IsTrueCache (D.universe provider.now) cache.new }
         ensures rounds { OnOk result (AreRounds (D.universe provider.now) self.new) }
         ensures still { OnOk result (IsStill self.new) }
-        ensures counted { OnOk result (HasAllClauses self.new) }
         ensures between { OnOk result ((root : Demands) → IsBetween (D.universe provider.now) root [] self.old → (items : List S) ×
             AreItems I.next_gives soft items × IsBetween (D.universe provider.now) root (map SoftSolvable items) self.new) }
         ensures limits { KeepsRoom self.old self.new }
@@ -263,11 +250,9 @@ impl<N: Copy + Eq + Hash + Drop, S: Copy + Eq + Hash + Drop> Rounds<N, S> {
         requires ends { IfSome soft (λ it. IsFinite (I.remaining it)) }
         requires rounds { AreRounds (D.universe provider.now) self.old }
         requires still { IsStill self.old }
-        requires counted { HasAllClauses self.old }
         requires is_true { IsTrueCache (D.universe provider.now) cache.old }
         ensures is_true { IsTrueCache (D.universe provider.now) cache.new }
         ensures rounds { OnOk result (AreRounds (D.universe provider.now) self.new) }
-        ensures counted { OnOk result (HasAllClauses self.new) }
         ensures between { OnOk result ((root : Demands) → IsBetween (D.universe provider.now) root [] self.old → (items : List S) ×
             AreItems I.next_gives soft items × IsBetween (D.universe provider.now) root (map SoftSolvable items ++ list.now) self.new) }
         ensures limits { KeepsRoom self.old self.new }

@@ -13,7 +13,6 @@ returns-in-Some g c =
       keeps = goes_trans (g.D.Interner.universe c.args.provider.now) c.args.self.now c.rounds.self c.rounds_until_read.new.self c.requires.rounds.variables
           c.rounds.invariant.keeps c.in_ok-found.ensures.keeps;
       found = rw c.in-Some.is at c.in_ok-found.ensures.found;
-      counted = rw c.in-Some.is at c.in_ok-found.ensures.counted;
       limits = room_trans c.args.self.now c.rounds.self c.rounds_until_read.new.self c.rounds.invariant.room c.in_ok-found.ensures.limits;
       refusal = tt;
     }
@@ -34,7 +33,6 @@ returns-in_err-found g c =
       rounds = IfOk-from_err c.from_residual.result _ c.from_residual.ensures.0;
       keeps = IfOk-from_err c.from_residual.result _ c.from_residual.ensures.0;
       found = IfOk-from_err c.from_residual.result _ c.from_residual.ensures.0;
-      counted = IfOk-from_err c.from_residual.result _ c.from_residual.ensures.0;
       limits = room_trans c.args.self.now c.rounds.self c.rounds_until_read.new.self c.rounds.invariant.room c.rounds_until_read.ensures.limits;
       refusal = IfErr-of c.from_residual.result _ _ c.from_residual.ensures.1 c.in_err-found.ensures.refusal;
     }

@@ -28,7 +28,6 @@ returns g c =
       still = let u = g.D.Interner.universe c.args.provider.now in
           let old = c.args.self.now in
           c.in_ok-load.ensures.still (still_added u old c.ask.new.self c.requires.rounds c.in_ok-ask.ensures.alone.origins c.requires.still);
-      counted = c.in_ok-load.ensures.counted;
       chosen = ap chosen_in c.in_ok-load.ensures.same.chosen;
       alone = let u = g.D.Interner.universe c.args.provider.now in
           let Alone : Encoding g.row.N.Denot g.row.S.Denot → Type 0 = λ e. AsksOnly u c.version_set_name-name.result (notes_of c.args.self.now) (notes_in e) in
@@ -56,7 +55,6 @@ returns-in_err-ask g c =
       is_true = c.ask.ensures.is_true;
       rounds = IfOk-from_err c.from_residual.result _ c.from_residual.ensures.0;
       still = IfOk-from_err c.from_residual.result _ c.from_residual.ensures.0;
-      counted = IfOk-from_err c.from_residual.result _ c.from_residual.ensures.0;
       chosen = IfOk-from_err c.from_residual.result _ c.from_residual.ensures.0;
       alone = IfOk-from_err c.from_residual.result _ c.from_residual.ensures.0;
       standing = IfOk-from_err c.from_residual.result _ c.from_residual.ensures.0;
@@ -70,7 +68,6 @@ returns-in_err-load g c =
       is_true = c.ask.ensures.is_true;
       rounds = IfOk-from_err c.from_residual-in_err-load.result _ c.from_residual-in_err-load.ensures.0;
       still = IfOk-from_err c.from_residual-in_err-load.result _ c.from_residual-in_err-load.ensures.0;
-      counted = IfOk-from_err c.from_residual-in_err-load.result _ c.from_residual-in_err-load.ensures.0;
       chosen = IfOk-from_err c.from_residual-in_err-load.result _ c.from_residual-in_err-load.ensures.0;
       alone = IfOk-from_err c.from_residual-in_err-load.result _ c.from_residual-in_err-load.ensures.0;
       standing = IfOk-from_err c.from_residual-in_err-load.result _ c.from_residual-in_err-load.ensures.0;

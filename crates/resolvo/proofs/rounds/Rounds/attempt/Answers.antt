@@ -1,5 +1,4 @@
 use Rattle.std.proofs.Common.{arith, ap, length, refl, true, List, ◌≡◌, ◌<◌}
-use Rattle.resolvo.proofs.GoingLemmas.{still_all}
 use Rattle.resolvo.proofs.SoftLemmas.{accepted, just_assumed, not_accepted, rounds_assumed, rounds_held, still_assumed, still_held, turned_held}
 use Rattle.resolver_encoding.proofs.SoFarLemmas.{lawful_solvables}
 use Rattle.resolver_encoding.specs.Encodings.{Notes, KeepsLimits}
@@ -31,8 +30,6 @@ returns-then-answered g c =
       still = let answering = c.in_ok-answered.ensures.answer c.if-answered.true in
           still_held (g.D.Interner.universe c.args.provider.now) c.is_answered.new.self c.hold.new.self c.hold.ensures.trail c.hold.ensures.count
           c.hold.ensures.held answering.bookmarked answering.chosen;
-      counted = still_all c.is_answered.new.self
-          (record c.is_answered.new.self { search = c.hold.new.self }) refl c.hold.ensures.clauses c.hold.ensures.learnt c.in_ok-answered.ensures.counted;
       turned = λ root taken refused seeds packages seen seed b.
           let u = g.D.Interner.universe c.args.provider.now in
           let old = c.args.self.now in
@@ -60,7 +57,6 @@ returns g c =
       is_true = c.refuse.ensures.is_true;
       rounds = c.in_ok-refuse.ensures.rounds;
       still = c.in_ok-refuse.ensures.still;
-      counted = c.in_ok-refuse.ensures.counted;
       turned = λ root taken refused seeds packages seen seed b.
           let u = g.D.Interner.universe c.args.provider.now in
           let old = c.args.self.now in
@@ -86,7 +82,6 @@ returns-in_err-begin_turn g c =
       is_true = c.requires.is_true;
       rounds = IfOk-from_err c.from_residual.result _ c.from_residual.ensures.0;
       still = IfOk-from_err c.from_residual.result _ c.from_residual.ensures.0;
-      counted = IfOk-from_err c.from_residual.result _ c.from_residual.ensures.0;
       turned = IfOk-from_err c.from_residual.result _ c.from_residual.ensures.0;
       limits = record { notes = limits_begun _ _ _ c.begin_turn.ensures.only; clauses = refl; learnt = refl };
       refusal = IfErr-of c.from_residual.result _ _ c.from_residual.ensures.1 (shortage_of_memory _ _ c.in_err-begin_turn.ensures.memory);
@@ -98,7 +93,6 @@ returns-in_err-assume g c =
       is_true = c.requires.is_true;
       rounds = IfOk-from_err c.from_residual-in_err-assume.result _ c.from_residual-in_err-assume.ensures.0;
       still = IfOk-from_err c.from_residual-in_err-assume.result _ c.from_residual-in_err-assume.ensures.0;
-      counted = IfOk-from_err c.from_residual-in_err-assume.result _ c.from_residual-in_err-assume.ensures.0;
       turned = IfOk-from_err c.from_residual-in_err-assume.result _ c.from_residual-in_err-assume.ensures.0;
       limits = record { notes = limits_begun _ _ _ c.begin_turn.ensures.only; clauses = refl; learnt = refl };
       refusal = IfErr-of c.from_residual-in_err-assume.result _ _ c.from_residual-in_err-assume.ensures.1 tt;
@@ -110,7 +104,6 @@ returns-in_err-answered g c =
       is_true = c.is_answered.ensures.is_true;
       rounds = IfOk-from_err c.from_residual-in_err-answered.result _ c.from_residual-in_err-answered.ensures.0;
       still = IfOk-from_err c.from_residual-in_err-answered.result _ c.from_residual-in_err-answered.ensures.0;
-      counted = IfOk-from_err c.from_residual-in_err-answered.result _ c.from_residual-in_err-answered.ensures.0;
       turned = IfOk-from_err c.from_residual-in_err-answered.result _ c.from_residual-in_err-answered.ensures.0;
       limits = room_trans c.args.self.now (record c.args.self.now { encoding = c.begin_turn.new.self; search = c.assume.new.self }) c.is_answered.new.self
           (record { notes = limits_begun _ _ _ c.begin_turn.ensures.only; clauses = refl; learnt = refl }) c.is_answered.ensures.limits;
@@ -123,7 +116,6 @@ returns-in_err-refuse g c =
       is_true = c.refuse.ensures.is_true;
       rounds = IfOk-from_err c.from_residual-in_err-refuse.result _ c.from_residual-in_err-refuse.ensures.0;
       still = IfOk-from_err c.from_residual-in_err-refuse.result _ c.from_residual-in_err-refuse.ensures.0;
-      counted = IfOk-from_err c.from_residual-in_err-refuse.result _ c.from_residual-in_err-refuse.ensures.0;
       turned = IfOk-from_err c.from_residual-in_err-refuse.result _ c.from_residual-in_err-refuse.ensures.0;
       limits = room_trans c.args.self.now c.is_answered.new.self c.refuse.new.self
           (room_trans c.args.self.now (record c.args.self.now { encoding = c.begin_turn.new.self; search = c.assume.new.self }) c.is_answered.new.self

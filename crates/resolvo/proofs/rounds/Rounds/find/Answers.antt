@@ -3,7 +3,6 @@ use Rattle.resolver_clause_store.specs.Outcomes.{IsCore}
 use Rattle.resolver_clause_store.specs.Universe.{Demands}
 use Rattle.resolvo.specs.ClauseSearches.{IsRefused, base_of, trail_of}
 use Rattle.resolvo.specs.RoundStates.{IsAnswering, IsFound, notes_of}
-use Rattle.resolvo.proofs.GoingLemmas.{still_all}
 use Rattle.resolvo.proofs.SoftLemmas.{between_begun, between_held, rounds_held, still_held}
 use Rattle.resolvo.proofs.RoundLemmas.{room_trans}
 use Rattle.std.proofs.lemmas.Result.{IfOk-from_err}
@@ -36,7 +35,6 @@ returns-in_ok-soft_turns-in-Answer g c =
           let first = between_begun u root c.begin.new.self rest begun.read begun.near begun.exempt begun.turn c.in_ok-all_rounds.ensures.keeps answering in
           let w = c.in_ok-soft_turns-in-Answer.ensures.between root (between_held u rest c.hold.new.self c.hold.ensures.trail c.hold.ensures.count root [] first) in
           (w.0, λ e. w.1, w.2);
-      counted = c.in_ok-soft_turns-in-Answer.ensures.counted;
       table = c.in_ok-soft_turns-in-Answer.ensures.rounds.reading.so_far.half.encoding.encoded.count;
       limits = let first = room_trans c.args.self.now c.begin.new.self c.all_rounds.new.self c.begin.ensures.limits c.all_rounds.ensures.limits in
           room_trans c.args.self.now (record c.all_rounds.new.self { search = c.hold.new.self }) c.soft_turns.new.self
@@ -54,7 +52,6 @@ returns-in-Contradiction g c =
           let found : IsFound u rest c.in_ok-all_rounds.field-0 = c.in_ok-all_rounds.ensures.found in
           let core : IsCore (notes_of rest).table c.in-Contradiction.core.items = rw c.in-Contradiction.is at found in
           ([], λ e. cc, (c.in_ok-all_rounds.ensures.keeps.read root c.in_ok-begin.ensures.read, core));
-      counted = c.in_ok-all_rounds.ensures.counted;
       table = c.in_ok-all_rounds.ensures.rounds.reading.so_far.half.encoding.encoded.count;
       limits = room_trans c.args.self.now c.begin.new.self c.all_rounds.new.self c.begin.ensures.limits c.all_rounds.ensures.limits;
       refusal = tt;
@@ -69,23 +66,16 @@ returns-in-Refused g c =
           let found : IsFound u rest c.in_ok-all_rounds.field-0 = c.in_ok-all_rounds.ensures.found in
           let refused : IsRefused (notes_of rest).table (trail_of rest.search) (base_of rest.search) = rw c.in-Refused.is at found in
           absurd (omega (arith, refused.turn, c.in_ok-all_rounds.ensures.keeps.turn.base, c.in_ok-begin.ensures.turn.base));
-      counted = c.in_ok-all_rounds.ensures.counted;
       table = c.in_ok-all_rounds.ensures.rounds.reading.so_far.half.encoding.encoded.count;
       limits = room_trans c.args.self.now c.begin.new.self c.all_rounds.new.self c.begin.ensures.limits c.all_rounds.ensures.limits;
       refusal = tt;
     }
-
-pub soft_turns-requires-clause-counted : goal.soft_turns-requires-clause-counted
-soft_turns-requires-clause-counted g c =
-    still_all c.all_rounds.new.self
-    (record c.all_rounds.new.self { search = c.hold.new.self }) refl c.hold.ensures.clauses c.hold.ensures.learnt c.in_ok-all_rounds.ensures.counted
 
 pub returns-in_err-begin : goal.returns-in_err-begin
 returns-in_err-begin g c =
     record {
       is_true = c.begin.ensures.is_true;
       done = IfOk-from_err c.from_residual.result _ c.from_residual.ensures.0;
-      counted = IfOk-from_err c.from_residual.result _ c.from_residual.ensures.0;
       table = IfOk-from_err c.from_residual.result _ c.from_residual.ensures.0;
       limits = c.begin.ensures.limits;
       refusal = IfErr-of c.from_residual.result _ _ c.from_residual.ensures.1 c.in_err-begin.ensures.refusal;
@@ -96,7 +86,6 @@ returns-in_err-all_rounds g c =
     record {
       is_true = c.all_rounds.ensures.is_true;
       done = IfOk-from_err c.from_residual-in_err-all_rounds.result _ c.from_residual-in_err-all_rounds.ensures.0;
-      counted = IfOk-from_err c.from_residual-in_err-all_rounds.result _ c.from_residual-in_err-all_rounds.ensures.0;
       table = IfOk-from_err c.from_residual-in_err-all_rounds.result _ c.from_residual-in_err-all_rounds.ensures.0;
       limits = room_trans c.args.self.now c.begin.new.self c.all_rounds.new.self c.begin.ensures.limits c.all_rounds.ensures.limits;
       refusal = IfErr-of c.from_residual-in_err-all_rounds.result _ _ c.from_residual-in_err-all_rounds.ensures.1 c.in_err-all_rounds.ensures.refusal;
@@ -107,7 +96,6 @@ returns-in_err-soft_turns-in-Answer g c =
     record {
       is_true = c.soft_turns.ensures.is_true;
       done = IfOk-from_err c.from_residual-in_err-soft_turns-in-Answer.result _ c.from_residual-in_err-soft_turns-in-Answer.ensures.0;
-      counted = IfOk-from_err c.from_residual-in_err-soft_turns-in-Answer.result _ c.from_residual-in_err-soft_turns-in-Answer.ensures.0;
       table = IfOk-from_err c.from_residual-in_err-soft_turns-in-Answer.result _ c.from_residual-in_err-soft_turns-in-Answer.ensures.0;
       limits = let first = room_trans c.args.self.now c.begin.new.self c.all_rounds.new.self c.begin.ensures.limits c.all_rounds.ensures.limits in
           room_trans c.args.self.now (record c.all_rounds.new.self { search = c.hold.new.self }) c.soft_turns.new.self

@@ -30,7 +30,6 @@ returns-in_err-all_rounds g c =
       is_true = c.all_rounds.ensures.is_true;
       rounds = IfOk-from_err c.from_residual.result _ c.from_residual.ensures.0;
       keeps = IfOk-from_err c.from_residual.result _ c.from_residual.ensures.0;
-      counted = IfOk-from_err c.from_residual.result _ c.from_residual.ensures.0;
       answer = IfOk-from_err c.from_residual.result _ c.from_residual.ensures.0;
       unanswered = IfOk-from_err c.from_residual.result _ c.from_residual.ensures.0;
       limits = c.all_rounds.ensures.limits;
@@ -46,13 +45,6 @@ returns-clause-answer g c =
       | in-Contradiction w ↦ rw w.result-is (λ on. absurd (false≢true on))
       | in-Refused w ↦ rw w.result-is (λ on. absurd (false≢true on))
     ]
-
-pub returns-clause-counted : goal.returns-clause-counted
-returns-clause-counted g c = elim c.match-branch-2.branch [
-  | in-Answer w ↦ rw w.result-is c.in_ok-all_rounds.ensures.counted
-  | in-Contradiction w ↦ rw w.result-is c.in_ok-all_rounds.ensures.counted
-  | in-Refused w ↦ rw w.result-is c.in_ok-all_rounds.ensures.counted
-]
 
 pub returns-clause-keeps : goal.returns-clause-keeps
 returns-clause-keeps g c = elim c.match-branch-2.branch [

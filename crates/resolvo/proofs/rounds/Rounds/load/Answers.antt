@@ -3,7 +3,7 @@ use Rattle.resolver_clause_store.specs.TrailView.{variable_count}
 use Rattle.resolvo.specs.ClauseSearches.{IsLoaded, trail_of}
 use Rattle.resolvo.specs.RoundStates.{chosen_of, notes_of}
 use Rattle.resolvo.proofs.RoundLemmas.{given_below, given_inside, loaded_all, rounds_owned, searched, still_owned}
-use Rattle.resolvo.proofs.GoingLemmas.{all_clauses, still_loaded}
+use Rattle.resolvo.proofs.GoingLemmas.{still_loaded}
 use Rattle.std.proofs.lemmas.Result.{IfOk-from_err}
 use Rattle.resolver_encoding.proofs.RefusalLemmas.{IfErr-of}
 use Rattle.resolvo.proofs.rounds.Rounds.load.Goals as goal
@@ -45,18 +45,6 @@ returns g c =
           still_loaded (g.D.Interner.universe c.args.provider.now) it c.load.new.self
           (rounds_owned (g.D.Interner.universe c.args.provider.now) c.args.self.now c.follow.new.self c.requires.rounds) c.in_ok-load.ensures.consistent
           c.in_ok-load.ensures.set c.in_ok-load.ensures.bookmarked c.in_ok-load.ensures.turn (still_owned c.args.self.now c.follow.new.self still);
-      counted = let notes = notes_of c.args.self.now in
-          let loaded : IsLoaded notes.table notes.requirements c.load.new.self =
-          loaded_all notes.table c.literals.result.now notes.requirements c.requirements.result.now c.args.self.now.search c.load.new.self
-          c.requires.rounds.loaded c.literals.ensures c.requirements.ensures c.in_ok-load.ensures.loaded in
-          let size : variable_count (trail_of c.load.new.self) ≡ length notes.origins = c.in_ok-load.ensures.variables ∙ c.len.ensures ∙
-          ap length c.variables-known.ensures in
-          let it = record c.args.self.now { owners = c.follow.new.self } in
-          all_clauses (g.D.Interner.universe c.args.provider.now) (record it { search = c.load.new.self })
-          (searched (g.D.Interner.universe c.args.provider.now) it c.load.new.self
-          (rounds_owned (g.D.Interner.universe c.args.provider.now) c.args.self.now c.follow.new.self c.requires.rounds) c.in_ok-load.ensures.consistent loaded
-          size c.in_ok-load.ensures.kept)
-          (record { loaded = loaded; variables = size });
       limits = record { notes = record { variables = refl; clauses = refl }; clauses = refl; learnt = refl };
       memory = tt;
     }
@@ -69,7 +57,6 @@ returns-in_err-follow g c =
       same = record { encoding = refl; chosen = refl };
       turn = IfOk-from_err c.from_residual.result _ c.from_residual.ensures.0;
       still = IfOk-from_err c.from_residual.result _ c.from_residual.ensures.0;
-      counted = IfOk-from_err c.from_residual.result _ c.from_residual.ensures.0;
       limits = record { notes = record { variables = refl; clauses = refl }; clauses = refl; learnt = refl };
       memory = IfErr-of c.from_residual.result _ _ c.from_residual.ensures.1 c.in_err-follow.ensures.memory;
     }
@@ -82,7 +69,6 @@ returns-in_err-load g c =
       same = record { encoding = refl; chosen = refl };
       turn = IfOk-from_err c.from_residual-in_err-load.result _ c.from_residual-in_err-load.ensures.0;
       still = IfOk-from_err c.from_residual-in_err-load.result _ c.from_residual-in_err-load.ensures.0;
-      counted = IfOk-from_err c.from_residual-in_err-load.result _ c.from_residual-in_err-load.ensures.0;
       limits = record { notes = record { variables = refl; clauses = refl }; clauses = refl; learnt = refl };
       memory = IfErr-of c.from_residual-in_err-load.result _ _ c.from_residual-in_err-load.ensures.1 c.in_err-load.ensures.memory;
     }

@@ -1,7 +1,6 @@
 use Rattle.resolver_encoding.specs.Trails.{solvables_before}
 use Rattle.std.proofs.Common.{ap, arith, false, refl, subst, sym, ◌≡◌, ◌∙◌, ◌+◌, ◌-◌, ℕ}
 use Rattle.std.specs.Prelude.{length}
-use Rattle.resolvo.proofs.GoingLemmas.{still_all}
 use Rattle.resolver_clause_store.specs.TrailView.{Gains, IsCut, length_of, level_of, slot_of}
 use Rattle.resolver_clause_store.specs.declared.Reason.TheVariants.{Assumed}
 use Rattle.resolver_clause_store.specs.declared.Trail.{Trail}
@@ -85,11 +84,6 @@ returns g c =
                 ap (λ (e : Encoding g.row.N.Denot g.row.S.Denot). solvables_before (notes_in e).origins trail (length_of trail)) (sym encoding) ∙
                 ap (λ (t : Trail). solvables_before (notes_of c.follow.new.self).origins t (length_of t)) (sym followed.trail);
           };
-      counted = let mid = c.load.new.self in
-          let followed = c.in_ok-follow.ensures.followed in
-          still_all mid c.follow.new.self (ap (λ (e : Encoding g.row.N.Denot g.row.S.Denot). length (notes_in e).kinds) c.in_ok-follow.ensures.following.encoding)
-          (followed.clauses ∙ c.in_ok-assume.ensures.clauses ∙ c.in_ok-retract.ensures.clauses)
-          (followed.learnt ∙ c.in_ok-assume.ensures.learnt ∙ c.in_ok-retract.ensures.learnt) c.in_ok-load.ensures.counted;
       refused = let u = g.D.Interner.universe c.args.provider.now in
           let old = c.args.self.now in
           let mid = c.load.new.self in
@@ -124,7 +118,6 @@ returns-in_err-end_turn g c =
       is_true = c.end_turn.ensures.is_true;
       rounds = IfOk-from_err c.from_residual.result _ c.from_residual.ensures.0;
       still = IfOk-from_err c.from_residual.result _ c.from_residual.ensures.0;
-      counted = IfOk-from_err c.from_residual.result _ c.from_residual.ensures.0;
       refused = IfOk-from_err c.from_residual.result _ c.from_residual.ensures.0;
       limits = record { notes = c.end_turn.ensures.limits; clauses = refl; learnt = refl };
       refusal = IfErr-of c.from_residual.result _ _ c.from_residual.ensures.1 (full_stop (g.D.DependencyProvider.may_cancel c.args.provider.now) (record c.args.self.now { encoding = c.end_turn.new.self }) _ c.in_err-end_turn.ensures.refusal);
@@ -136,7 +129,6 @@ returns-in_err-load g c =
       is_true = c.end_turn.ensures.is_true;
       rounds = IfOk-from_err c.from_residual-in_err-load.result _ c.from_residual-in_err-load.ensures.0;
       still = IfOk-from_err c.from_residual-in_err-load.result _ c.from_residual-in_err-load.ensures.0;
-      counted = IfOk-from_err c.from_residual-in_err-load.result _ c.from_residual-in_err-load.ensures.0;
       refused = IfOk-from_err c.from_residual-in_err-load.result _ c.from_residual-in_err-load.ensures.0;
       limits = room_trans c.args.self.now (record c.args.self.now { encoding = c.end_turn.new.self }) c.load.new.self
           (record { notes = c.end_turn.ensures.limits; clauses = refl; learnt = refl }) c.load.ensures.limits;
@@ -149,7 +141,6 @@ returns-in_err-retract g c =
       is_true = c.end_turn.ensures.is_true;
       rounds = IfOk-from_err c.from_residual-in_err-retract.result _ c.from_residual-in_err-retract.ensures.0;
       still = IfOk-from_err c.from_residual-in_err-retract.result _ c.from_residual-in_err-retract.ensures.0;
-      counted = IfOk-from_err c.from_residual-in_err-retract.result _ c.from_residual-in_err-retract.ensures.0;
       refused = IfOk-from_err c.from_residual-in_err-retract.result _ c.from_residual-in_err-retract.ensures.0;
       limits = let loaded = room_trans c.args.self.now (record c.args.self.now { encoding = c.end_turn.new.self }) c.load.new.self
           (record { notes = c.end_turn.ensures.limits; clauses = refl; learnt = refl }) c.load.ensures.limits in
@@ -163,7 +154,6 @@ returns-in_err-assume g c =
       is_true = c.end_turn.ensures.is_true;
       rounds = IfOk-from_err c.from_residual-in_err-assume.result _ c.from_residual-in_err-assume.ensures.0;
       still = IfOk-from_err c.from_residual-in_err-assume.result _ c.from_residual-in_err-assume.ensures.0;
-      counted = IfOk-from_err c.from_residual-in_err-assume.result _ c.from_residual-in_err-assume.ensures.0;
       refused = IfOk-from_err c.from_residual-in_err-assume.result _ c.from_residual-in_err-assume.ensures.0;
       limits = let loaded = room_trans c.args.self.now (record c.args.self.now { encoding = c.end_turn.new.self }) c.load.new.self
           (record { notes = c.end_turn.ensures.limits; clauses = refl; learnt = refl }) c.load.ensures.limits in
@@ -177,7 +167,6 @@ returns-in_err-follow g c =
       is_true = c.end_turn.ensures.is_true;
       rounds = IfOk-from_err c.from_residual-in_err-follow.result _ c.from_residual-in_err-follow.ensures.0;
       still = IfOk-from_err c.from_residual-in_err-follow.result _ c.from_residual-in_err-follow.ensures.0;
-      counted = IfOk-from_err c.from_residual-in_err-follow.result _ c.from_residual-in_err-follow.ensures.0;
       refused = IfOk-from_err c.from_residual-in_err-follow.result _ c.from_residual-in_err-follow.ensures.0;
       limits = let loaded = room_trans c.args.self.now (record c.args.self.now { encoding = c.end_turn.new.self }) c.load.new.self
           (record { notes = c.end_turn.ensures.limits; clauses = refl; learnt = refl }) c.load.ensures.limits in

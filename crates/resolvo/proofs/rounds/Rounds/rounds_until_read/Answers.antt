@@ -14,11 +14,7 @@ returns-in-Last g c =
       keeps = goes_trans (g.D.Interner.universe c.args.provider.now) c.args.self.now c.rounds.self c.round.new.self c.requires.rounds.variables c.rounds.invariant.keeps
           c.in_ok-found.ensures.keeps;
       found = let round : IsRound (g.D.Interner.universe c.args.provider.now) c.rounds.self c.round.new.self c.in_ok-found.field-0 = c.in_ok-found.ensures.round in
-          let last = rw c.in-Last.is at round in
-          last.0;
-      counted = let round : IsRound (g.D.Interner.universe c.args.provider.now) c.rounds.self c.round.new.self c.in_ok-found.field-0 = c.in_ok-found.ensures.round in
-          let last = rw c.in-Last.is at round in
-          last.1;
+          rw c.in-Last.is at round;
       read = tt;
       fit = tt;
       limits = room_trans c.args.self.now c.rounds.self c.round.new.self c.rounds.invariant.room c.in_ok-found.ensures.limits;
@@ -33,7 +29,6 @@ returns-in-Read g c =
       keeps = goes_trans (g.D.Interner.universe c.args.provider.now) c.args.self.now c.rounds.self c.round.new.self c.requires.rounds.variables c.rounds.invariant.keeps
           c.in_ok-found.ensures.keeps;
       found = tt;
-      counted = tt;
       read = let round : IsRound (g.D.Interner.universe c.args.provider.now) c.rounds.self c.round.new.self c.in_ok-found.field-0 = c.in_ok-found.ensures.round in
           let read = rw c.in-Read.is at round in
           rw c.rounds.invariant.read at read.0;
@@ -64,7 +59,6 @@ returns-in_err-found g c =
       rounds = IfOk-from_err c.from_residual.result _ c.from_residual.ensures.0;
       keeps = IfOk-from_err c.from_residual.result _ c.from_residual.ensures.0;
       found = IfOk-from_err c.from_residual.result _ c.from_residual.ensures.0;
-      counted = IfOk-from_err c.from_residual.result _ c.from_residual.ensures.0;
       read = IfOk-from_err c.from_residual.result _ c.from_residual.ensures.0;
       fit = IfOk-from_err c.from_residual.result _ c.from_residual.ensures.0;
       limits = room_trans c.args.self.now c.rounds.self c.round.new.self c.rounds.invariant.room c.round.ensures.limits;

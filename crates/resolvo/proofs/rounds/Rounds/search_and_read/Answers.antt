@@ -5,7 +5,7 @@ use Rattle.resolver_clause_store.specs.declared.RequirementClause.{RequirementCl
 use Rattle.resolver_encoding.specs.SoFar.{IsProgress}
 use Rattle.resolvo.specs.ClauseSearches.{OutcomeIs, base_of, numbers_of, trail_of}
 use Rattle.resolvo.specs.RoundStates.{notes_of}
-use Rattle.resolvo.proofs.GoingLemmas.{all_clauses, answering, goes_searched, goes_trans, still_all}
+use Rattle.resolvo.proofs.GoingLemmas.{answering, goes_searched, goes_trans}
 use Rattle.resolver_encoding.proofs.SoFarLemmas.{lawful_solvables}
 use Rattle.resolvo.proofs.RoundLemmas.{room_trans}
 use Rattle.std.proofs.lemmas.Result.{IfOk-from_err}
@@ -18,11 +18,10 @@ returns-in-Contradiction g c =
       is_true = c.requires.is_true;
       rounds = c.in_ok-core.ensures.rounds;
       keeps = goes_searched (g.D.Interner.universe c.args.provider.now) c.args.self.now c.search.new.self c.in_ok-core.ensures.same c.in_ok-core.ensures.turn;
-      round = let u = g.D.Interner.universe c.args.provider.now in
-          let mid = c.search.new.self in
+      round = let mid = c.search.new.self in
           let outcome : OutcomeIs (notes_of mid).table (notes_of mid).requirements (trail_of mid.search) (base_of mid.search) c.in_ok-core.field-0 =
           c.in_ok-core.ensures.outcome in
-          (rw c.in-Contradiction.is at outcome, all_clauses u mid c.in_ok-core.ensures.rounds c.in_ok-core.ensures.loaded);
+          rw c.in-Contradiction.is at outcome;
       limits = c.search.ensures.limits;
       refusal = tt;
     }
@@ -33,11 +32,10 @@ returns-in-Refused g c =
       is_true = c.requires.is_true;
       rounds = c.in_ok-core.ensures.rounds;
       keeps = goes_searched (g.D.Interner.universe c.args.provider.now) c.args.self.now c.search.new.self c.in_ok-core.ensures.same c.in_ok-core.ensures.turn;
-      round = let u = g.D.Interner.universe c.args.provider.now in
-          let mid = c.search.new.self in
+      round = let mid = c.search.new.self in
           let outcome : OutcomeIs (notes_of mid).table (notes_of mid).requirements (trail_of mid.search) (base_of mid.search) c.in_ok-core.field-0 =
           c.in_ok-core.ensures.outcome in
-          (rw c.in-Refused.is at outcome, all_clauses u mid c.in_ok-core.ensures.rounds c.in_ok-core.ensures.loaded);
+          rw c.in-Refused.is at outcome;
       limits = c.search.ensures.limits;
       refusal = tt;
     }
@@ -60,15 +58,12 @@ returns-in-Nothing g c =
           let finished : (requirements : List RequirementClause) → numbers_of requirements ≡ (notes_of mid).requirements →
           IsFinished (notes_of mid).table requirements (trail_of mid.search) = rw c.in-Finished.is at outcome in
           let progress : IsProgress (notes_of mid) (notes_of new) c.in_ok-read-in-Finished.field-0 = c.in_ok-read-in-Finished.ensures.progress in
-          let same : notes_of new ≡ notes_of mid = rw c.in-Nothing.is at progress in (
-            answering u mid new mid.encoding.table.requirements.items
-                (lawful_solvables u g.S.PartialEq.eq (g.met.D.Interner.lawful_ids c.args.provider.now)
-                (g.met.D.Interner.solvables_compare c.args.provider.now) g.met.D.Interner.solvables_are_values)
-                (g.met.D.DependencyProvider.lawful_packages c.args.provider.now)
-                up c.in_ok-core.ensures.rounds followed same followed.bookmarked refl (finished mid.encoding.table.requirements.items refl),
-            still_all mid new (ap (λ (n : Notes g.row.N.Denot g.row.S.Denot). length n.kinds) same) followed.clauses followed.learnt
-                (all_clauses u mid c.in_ok-core.ensures.rounds up),
-          );
+          let same : notes_of new ≡ notes_of mid = rw c.in-Nothing.is at progress in
+          answering u mid new mid.encoding.table.requirements.items
+          (lawful_solvables u g.S.PartialEq.eq (g.met.D.Interner.lawful_ids c.args.provider.now)
+          (g.met.D.Interner.solvables_compare c.args.provider.now) g.met.D.Interner.solvables_are_values)
+          (g.met.D.DependencyProvider.lawful_packages c.args.provider.now)
+          up c.in_ok-core.ensures.rounds followed same followed.bookmarked refl (finished mid.encoding.table.requirements.items refl);
       limits = room_trans c.args.self.now c.search.new.self c.read.new.self c.search.ensures.limits c.read.ensures.limits;
       refusal = tt;
     }

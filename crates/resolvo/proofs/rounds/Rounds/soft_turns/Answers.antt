@@ -10,7 +10,6 @@ returns g c =
     record {
       is_true = c.list_turns.ensures.is_true;
       rounds = c.in_ok-list_turns.ensures.rounds;
-      counted = c.in_ok-list_turns.ensures.counted;
       between = λ root b.
           let w = c.in_ok-given_turns.ensures.between root b in
           (w.0, w.1, c.in_ok-list_turns.ensures.between root (map Solvable w.0) w.2);
@@ -23,7 +22,6 @@ returns-in_err-given_turns g c =
     record {
       is_true = c.given_turns.ensures.is_true;
       rounds = IfOk-from_err c.from_residual.result _ c.from_residual.ensures.0;
-      counted = IfOk-from_err c.from_residual.result _ c.from_residual.ensures.0;
       between = IfOk-from_err c.from_residual.result _ c.from_residual.ensures.0;
       limits = c.given_turns.ensures.limits;
       refusal = IfErr-of c.from_residual.result _ _ c.from_residual.ensures.1 c.in_err-given_turns.ensures.refusal;
@@ -34,7 +32,6 @@ returns-in_err-list_turns g c =
     record {
       is_true = c.list_turns.ensures.is_true;
       rounds = IfOk-from_err c.from_residual-in_err-list_turns.result _ c.from_residual-in_err-list_turns.ensures.0;
-      counted = IfOk-from_err c.from_residual-in_err-list_turns.result _ c.from_residual-in_err-list_turns.ensures.0;
       between = IfOk-from_err c.from_residual-in_err-list_turns.result _ c.from_residual-in_err-list_turns.ensures.0;
       limits = room_trans c.args.self.now c.given_turns.new.self c.list_turns.new.self c.given_turns.ensures.limits c.list_turns.ensures.limits;
       refusal = IfErr-of c.from_residual-in_err-list_turns.result _ _ c.from_residual-in_err-list_turns.ensures.1 c.in_err-list_turns.ensures.refusal;
@@ -45,9 +42,6 @@ given_turns-requires-clause-can_next g c = c.requires.can_next
 
 pub given_turns-requires-clause-ends : goal.given_turns-requires-clause-ends
 given_turns-requires-clause-ends g c = c.requires.ends
-
-pub list_turns-requires-clause-counted : goal.list_turns-requires-clause-counted
-list_turns-requires-clause-counted g c = c.in_ok-given_turns.ensures.counted
 
 pub list_turns-requires-clause-still : goal.list_turns-requires-clause-still
 list_turns-requires-clause-still g c = c.in_ok-given_turns.ensures.still

@@ -16,7 +16,6 @@ returns g c =
       is_true = c.loop-solvable.invariant.is_true;
       rounds = c.loop-solvable.invariant.rounds;
       still = c.loop-solvable.invariant.still;
-      counted = c.loop-solvable.invariant.counted;
       between = λ root b. (
         c.loop-solvable.yielded,
         gives_all g.I.Iterator.next_gives c.args.soft c.into_iter-solvable-iterator.result _ c.into_iter-solvable-iterator.ensures.into_iter_gives
@@ -35,7 +34,6 @@ loop-solvable-preserved g c =
       is_true = c.soft_turn.ensures.is_true;
       rounds = c.in_ok-soft_turn.ensures.rounds;
       still = c.in_ok-soft_turn.ensures.still;
-      counted = c.in_ok-soft_turn.ensures.counted;
       room = room_trans c.args.self.now c.loop-solvable.self c.soft_turn.new.self before.room c.soft_turn.ensures.limits;
       between = λ root b.
           let Between : List (SoftRequirement g.row.S.Denot) → Type 0 =
@@ -50,7 +48,6 @@ returns-in_err-soft_turn g c =
       is_true = c.soft_turn.ensures.is_true;
       rounds = IfOk-from_err c.from_residual.result _ c.from_residual.ensures.0;
       still = IfOk-from_err c.from_residual.result _ c.from_residual.ensures.0;
-      counted = IfOk-from_err c.from_residual.result _ c.from_residual.ensures.0;
       between = IfOk-from_err c.from_residual.result _ c.from_residual.ensures.0;
       limits = room_trans c.args.self.now c.loop-solvable.self c.soft_turn.new.self c.loop-solvable.invariant.room c.soft_turn.ensures.limits;
       refusal = IfErr-of c.from_residual.result _ _ c.from_residual.ensures.1 c.in_err-soft_turn.ensures.refusal;
@@ -61,13 +58,9 @@ loop-solvable-init g c = record {
   is_true = c.requires.is_true;
   rounds = c.requires.rounds;
   still = c.requires.still;
-  counted = c.requires.counted;
   room = room_same c.args.self.now;
   between = λ root b. b;
 }
-
-pub soft_turn-requires-clause-counted : goal.soft_turn-requires-clause-counted
-soft_turn-requires-clause-counted g c = c.loop-solvable.invariant.counted
 
 pub soft_turn-requires-clause-still : goal.soft_turn-requires-clause-still
 soft_turn-requires-clause-still g c = c.loop-solvable.invariant.still

@@ -49,7 +49,6 @@ returns-in-Some g c =
       still = let u = g.D.Interner.universe c.args.provider.now in
           let old = c.args.self.now in
           c.in_ok-load.ensures.still (still_added u old c.register.new.self c.requires.rounds c.in_ok-variable.ensures.registered.origins c.requires.still);
-      counted = c.in_ok-load.ensures.counted;
       turned = λ root taken refused seeds packages seed b.
           let u = g.D.Interner.universe c.args.provider.now in
           let s = c.args.solvable in
@@ -83,7 +82,6 @@ returns-in_ok-is_chosen-in-None g c =
       is_true = c.attempt.ensures.is_true;
       rounds = c.in_ok-is_chosen-in-None.ensures.rounds;
       still = c.in_ok-is_chosen-in-None.ensures.still;
-      counted = c.in_ok-is_chosen-in-None.ensures.counted;
       turned = λ root taken refused seeds packages seed b.
           let u = g.D.Interner.universe c.args.provider.now in
           let s = c.args.solvable in
@@ -112,7 +110,6 @@ returns-in_err-variable g c =
       is_true = c.requires.is_true;
       rounds = IfOk-from_err c.from_residual.result _ c.from_residual.ensures.0;
       still = IfOk-from_err c.from_residual.result _ c.from_residual.ensures.0;
-      counted = IfOk-from_err c.from_residual.result _ c.from_residual.ensures.0;
       turned = IfOk-from_err c.from_residual.result _ c.from_residual.ensures.0;
       limits = record { notes = c.register.ensures.limits; clauses = refl; learnt = refl };
       refusal = IfErr-of c.from_residual.result _ _ c.from_residual.ensures.1 (full_shortage (record c.args.self.now { encoding = c.register.new.self }) _ c.in_err-variable.ensures.refusal);
@@ -124,7 +121,6 @@ returns-in_err-load g c =
       is_true = c.requires.is_true;
       rounds = IfOk-from_err c.from_residual-in_err-load.result _ c.from_residual-in_err-load.ensures.0;
       still = IfOk-from_err c.from_residual-in_err-load.result _ c.from_residual-in_err-load.ensures.0;
-      counted = IfOk-from_err c.from_residual-in_err-load.result _ c.from_residual-in_err-load.ensures.0;
       turned = IfOk-from_err c.from_residual-in_err-load.result _ c.from_residual-in_err-load.ensures.0;
       limits = room_trans c.args.self.now (record c.args.self.now { encoding = c.register.new.self }) c.load.new.self
           (record { notes = c.register.ensures.limits; clauses = refl; learnt = refl }) c.load.ensures.limits;
@@ -137,7 +133,6 @@ returns-in_err-is_chosen-in-None g c =
       is_true = c.attempt.ensures.is_true;
       rounds = IfOk-from_err c.from_residual-in_err-is_chosen-in-None.result _ c.from_residual-in_err-is_chosen-in-None.ensures.0;
       still = IfOk-from_err c.from_residual-in_err-is_chosen-in-None.result _ c.from_residual-in_err-is_chosen-in-None.ensures.0;
-      counted = IfOk-from_err c.from_residual-in_err-is_chosen-in-None.result _ c.from_residual-in_err-is_chosen-in-None.ensures.0;
       turned = IfOk-from_err c.from_residual-in_err-is_chosen-in-None.result _ c.from_residual-in_err-is_chosen-in-None.ensures.0;
       limits = room_trans c.args.self.now c.load.new.self c.attempt.new.self
           (room_trans c.args.self.now (record c.args.self.now { encoding = c.register.new.self }) c.load.new.self

@@ -22,7 +22,6 @@ returns-then-has_any g c =
       is_true = c.in_ok-candidates.ensures.is_true;
       rounds = c.requires.rounds;
       still = c.requires.still;
-      counted = c.requires.counted;
       between = λ root done b.
           let u = g.D.Interner.universe c.args.provider.now in
           let v = c.args.version_set in
@@ -72,7 +71,6 @@ returns g c =
       is_true = c.take_first.ensures.is_true;
       rounds = c.in_ok-take_first.ensures.rounds;
       still = c.in_ok-take_first.ensures.still;
-      counted = c.in_ok-take_first.ensures.counted;
       between = λ root done b.
           let u = g.D.Interner.universe c.args.provider.now in
           let v = c.args.version_set in
@@ -113,7 +111,6 @@ returns-in_err-candidates g c =
       is_true = c.requirement_candidates.ensures.is_true;
       rounds = IfOk-from_err c.from_residual.result _ c.from_residual.ensures.0;
       still = IfOk-from_err c.from_residual.result _ c.from_residual.ensures.0;
-      counted = IfOk-from_err c.from_residual.result _ c.from_residual.ensures.0;
       between = IfOk-from_err c.from_residual.result _ c.from_residual.ensures.0;
       limits = room_same c.args.self.now;
       refusal = IfErr-stop c.from_residual.result (g.D.DependencyProvider.may_cancel c.args.provider.now) _ _ c.from_residual.ensures.1 c.in_err-candidates.ensures.refusal;
@@ -125,7 +122,6 @@ returns-in_err-ask g c =
       is_true = c.ask.ensures.is_true;
       rounds = IfOk-from_err c.from_residual-in_err-ask.result _ c.from_residual-in_err-ask.ensures.0;
       still = IfOk-from_err c.from_residual-in_err-ask.result _ c.from_residual-in_err-ask.ensures.0;
-      counted = IfOk-from_err c.from_residual-in_err-ask.result _ c.from_residual-in_err-ask.ensures.0;
       between = IfOk-from_err c.from_residual-in_err-ask.result _ c.from_residual-in_err-ask.ensures.0;
       limits = c.ask.ensures.limits;
       refusal = IfErr-of c.from_residual-in_err-ask.result _ _ c.from_residual-in_err-ask.ensures.1 c.in_err-ask.ensures.refusal;
@@ -137,14 +133,10 @@ returns-in_err-take_first g c =
       is_true = c.take_first.ensures.is_true;
       rounds = IfOk-from_err c.from_residual-in_err-take_first.result _ c.from_residual-in_err-take_first.ensures.0;
       still = IfOk-from_err c.from_residual-in_err-take_first.result _ c.from_residual-in_err-take_first.ensures.0;
-      counted = IfOk-from_err c.from_residual-in_err-take_first.result _ c.from_residual-in_err-take_first.ensures.0;
       between = IfOk-from_err c.from_residual-in_err-take_first.result _ c.from_residual-in_err-take_first.ensures.0;
       limits = room_trans c.args.self.now c.ask.new.self c.take_first.new.self c.ask.ensures.limits c.take_first.ensures.limits;
       refusal = IfErr-of c.from_residual-in_err-take_first.result _ _ c.from_residual-in_err-take_first.ensures.1 c.in_err-take_first.ensures.refusal;
     }
-
-pub take_first-requires-clause-counted : goal.take_first-requires-clause-counted
-take_first-requires-clause-counted g c = c.in_ok-ask.ensures.counted
 
 pub take_first-requires-clause-still : goal.take_first-requires-clause-still
 take_first-requires-clause-still g c = c.in_ok-ask.ensures.still
