@@ -36,19 +36,3 @@ take_turn-requires-clause-form g c = c.requires.form
 
 pub take_turn-requires-clause-underway : goal.take_turn-requires-clause-underway
 take_turn-requires-clause-underway g c = c.loop-turn.invariant.0
-
-pub returns-in_err-turns : goal.returns-in_err-turns
-returns-in_err-turns g c =
-    record {
-      left = IfOk-from_err c.from_residual.result _ c.from_residual.ensures.0;
-      size = IfOk-from_err c.from_residual.result _ c.from_residual.ensures.0;
-      memory = IfErr-of c.from_residual.result _ _ c.from_residual.ensures.1 refl;
-    }
-
-pub returns-in_err-take_turn : goal.returns-in_err-take_turn
-returns-in_err-take_turn g c =
-    record {
-      left = IfOk-from_err c.from_residual-in_err-take_turn.result _ c.from_residual-in_err-take_turn.ensures.0;
-      size = IfOk-from_err c.from_residual-in_err-take_turn.result _ c.from_residual-in_err-take_turn.ensures.0;
-      memory = IfErr-of c.from_residual-in_err-take_turn.result _ _ c.from_residual-in_err-take_turn.ensures.1 c.in_err-take_turn.ensures.memory;
-    }

@@ -48,42 +48,6 @@ conflicts-preserved g c =
 pub descend-requires : goal.descend-requires
 descend-requires g c = record { consistent = c.conflicts.invariant.0 }
 
-pub returns-in_err-descend : goal.returns-in_err-descend
-returns-in_err-descend g c =
-    record {
-      outcome = IfOk-from_err c.from_residual.result _ c.from_residual.ensures.0;
-      consistent = IfOk-from_err c.from_residual.result _ c.from_residual.ensures.0;
-      loaded = IfOk-from_err c.from_residual.result _ c.from_residual.ensures.0;
-      variables = IfOk-from_err c.from_residual.result _ c.from_residual.ensures.0;
-      kept = IfOk-from_err c.from_residual.result _ c.from_residual.ensures.0;
-      turn = IfOk-from_err c.from_residual.result _ c.from_residual.ensures.0;
-      refusal = IfErr-stop c.from_residual.result (g.D.DependencyProvider.may_cancel c.args.provider.now) _ _ c.from_residual.ensures.1 c.in_err-descend.ensures.refusal;
-    }
-
-pub returns-in_err-outcome-in-Some : goal.returns-in_err-outcome-in-Some
-returns-in_err-outcome-in-Some g c =
-    record {
-      outcome = IfOk-from_err c.from_residual-in_err-outcome-in-Some.result _ c.from_residual-in_err-outcome-in-Some.ensures.0;
-      consistent = IfOk-from_err c.from_residual-in_err-outcome-in-Some.result _ c.from_residual-in_err-outcome-in-Some.ensures.0;
-      loaded = IfOk-from_err c.from_residual-in_err-outcome-in-Some.result _ c.from_residual-in_err-outcome-in-Some.ensures.0;
-      variables = IfOk-from_err c.from_residual-in_err-outcome-in-Some.result _ c.from_residual-in_err-outcome-in-Some.ensures.0;
-      kept = IfOk-from_err c.from_residual-in_err-outcome-in-Some.result _ c.from_residual-in_err-outcome-in-Some.ensures.0;
-      turn = IfOk-from_err c.from_residual-in_err-outcome-in-Some.result _ c.from_residual-in_err-outcome-in-Some.ensures.0;
-      refusal = IfErr-of c.from_residual-in_err-outcome-in-Some.result _ _ c.from_residual-in_err-outcome-in-Some.ensures.1 (shortage_at_limit _ _ c.in_err-outcome-in-Some.ensures.ids);
-    }
-
-pub returns-in_err-restart-in-None-2 : goal.returns-in_err-restart-in-None-2
-returns-in_err-restart-in-None-2 g c =
-    record {
-      outcome = IfOk-from_err c.from_residual-in_err-restart-in-None-2.result _ c.from_residual-in_err-restart-in-None-2.ensures.0;
-      consistent = IfOk-from_err c.from_residual-in_err-restart-in-None-2.result _ c.from_residual-in_err-restart-in-None-2.ensures.0;
-      loaded = IfOk-from_err c.from_residual-in_err-restart-in-None-2.result _ c.from_residual-in_err-restart-in-None-2.ensures.0;
-      variables = IfOk-from_err c.from_residual-in_err-restart-in-None-2.result _ c.from_residual-in_err-restart-in-None-2.ensures.0;
-      kept = IfOk-from_err c.from_residual-in_err-restart-in-None-2.result _ c.from_residual-in_err-restart-in-None-2.ensures.0;
-      turn = IfOk-from_err c.from_residual-in_err-restart-in-None-2.result _ c.from_residual-in_err-restart-in-None-2.ensures.0;
-      refusal = IfErr-stop c.from_residual-in_err-restart-in-None-2.result (g.D.DependencyProvider.may_cancel c.args.provider.now) _ _ c.from_residual-in_err-restart-in-None-2.ensures.1 c.in_err-restart-in-None-2.ensures.refusal;
-    }
-
 pub learn-requires-clause-consistent : goal.learn-requires-clause-consistent
 learn-requires-clause-consistent g c = c.in_ok-descend.ensures.consistent
 

@@ -14,27 +14,6 @@ returns g c =
       memory = tt;
     }
 
-pub returns-in_err-marks : goal.returns-in_err-marks
-returns-in_err-marks g c =
-    record {
-      explains = IfOk-from_err c.from_residual.result _ c.from_residual.ensures.0;
-      memory = IfErr-of c.from_residual.result _ _ c.from_residual.ensures.1 c.in_err-marks.ensures.memory;
-    }
-
-pub returns-in_err-copies : goal.returns-in_err-copies
-returns-in_err-copies g c =
-    record {
-      explains = IfOk-from_err c.from_residual-in_err-copies.result _ c.from_residual-in_err-copies.ensures.0;
-      memory = IfErr-of c.from_residual-in_err-copies.result _ _ c.from_residual-in_err-copies.ensures.1 c.in_err-copies.ensures.memory;
-    }
-
-pub returns-in_err-rules : goal.returns-in_err-rules
-returns-in_err-rules g c =
-    record {
-      explains = IfOk-from_err c.from_residual-in_err-rules.result _ c.from_residual-in_err-rules.ensures.0;
-      memory = IfErr-of c.from_residual-in_err-rules.result _ _ c.from_residual-in_err-rules.ensures.1 c.in_err-rules.ensures.memory;
-    }
-
 pub copies_of-requires : goal.copies_of-requires
 copies_of-requires g c =
     ap length c.deref.ensures.value ∙ (c.in_ok-marks.ensures.size ∙ ap length (c.rules.ensures ∙ sym c.rules-2.ensures))

@@ -11,11 +11,5 @@ returns-clause-propagator c = λ table it.
 pub returns-clause-own : goal.returns-clause-own
 returns-clause-own c = owns-push c.args.literals.now _ _ c.pair_of.result c.in_ok-add.ensures.pairs c.pair_of.ensures
 
-pub returns-in_err-add-clause-kept : goal.returns-in_err-add-clause-kept
-returns-in_err-add-clause-kept c = c.add.ensures.kept
-
-pub returns-in_err-push-clause-kept : goal.returns-in_err-push-clause-kept
-returns-in_err-push-clause-kept c = c.add.ensures.kept
-
 pub returns-clause-kept : goal.returns-clause-kept
 returns-clause-kept c = c.add.ensures.kept

@@ -38,18 +38,6 @@ returns-in_ok-outcome-in-None c =
       total = c.force_other.ensures.total;
     }
 
-pub returns-in_err-move_watch-in-Some : goal.returns-in_err-move_watch-in-Some
-returns-in_err-move_watch-in-Some c =
-    record {
-      outcome = IfOk-from_err c.from_residual.result _ c.from_residual.ensures.0;
-      refused = refused-any _ _ (owned-same _ _ _ c.in_err-move_watch-in-Some.ensures.kept (owned-of _ _ _ c.requires.visiting.propagator));
-      justified = c.requires.justified;
-      extends = extends-same c.args.trail.now;
-      size = refl;
-      open_ones = omega arith;
-      total = refl;
-    }
-
 pub replacement-requires-clause-falsified : goal.replacement-requires-clause-falsified
 replacement-requires-clause-falsified c = false-now _ _ _ _ _ c.requires.visiting
 
@@ -61,18 +49,6 @@ replacement-requires-clause-other c = rw c.clause-literals.ensures (own-other _ 
 
 pub replacement-requires-clause-differ : goal.replacement-requires-clause-differ
 replacement-requires-clause-differ c = c.requires.pair.differ
-
-pub returns-in_err-outcome-in-None : goal.returns-in_err-outcome-in-None
-returns-in_err-outcome-in-None c =
-    record {
-      outcome = IfOk-from_err c.from_residual-in_err-outcome-in-None.result _ c.from_residual-in_err-outcome-in-None.ensures.0;
-      refused = refused-any _ _ c.in_err-outcome-in-None.ensures.refused;
-      justified = c.force_other.ensures.justified;
-      extends = c.force_other.ensures.extends;
-      size = c.force_other.ensures.size;
-      open_ones = c.force_other.ensures.open_ones;
-      total = c.force_other.ensures.total;
-    }
 
 pub replacement-requires-clause-below : goal.replacement-requires-clause-below
 replacement-requires-clause-below c = rw c.clause-literals.ensures (c.requires.visiting.below c.args.watcher.now.placed.watch.number)

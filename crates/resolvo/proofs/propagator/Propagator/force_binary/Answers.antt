@@ -17,19 +17,6 @@ pass_by-requires-clause-visiting c = forces _ _ _ _ _ _ _ _ c.requires.visiting 
 pub pass_by-requires-clause-satisfied : goal.pass_by-requires-clause-satisfied
 pass_by-requires-clause-satisfied c = gained-satisfied _ _ _ _ _ _ c.in_ok-force.ensures.ok c.requires.own
 
-pub returns-in_err-force-clause-justified : goal.returns-in_err-force-clause-justified
-returns-in_err-force-clause-justified c = justified-same _ _ _ c.requires.justified c.in_err-force.ensures.err
-
-pub returns-in_err-force-clause-refused : goal.returns-in_err-force-clause-refused
-returns-in_err-force-clause-refused c = refused-any _ _ (owned-of _ _ _ c.requires.visiting.propagator)
-
-pub returns-in_err-outcome-clause-justified : goal.returns-in_err-outcome-clause-justified
-returns-in_err-outcome-clause-justified c =
-    let was = c.requires.visiting.propagator in
-    justified-gains _ _ _ _ _ _ c.requires.justified c.in_ok-force.ensures.ok (value-none _ _ c.requires.free)
-    (omega (arith, c.requires.inside, was.watched.attached)) c.requires.own
-    (binary-unit _ _ _ _ _ c.requires.visiting _ _ c.requires.watching c.requires.own c.requires.two c.requires.free)
-
 pub returns-clause-justified : goal.returns-clause-justified
 returns-clause-justified c =
     let was = c.requires.visiting.propagator in

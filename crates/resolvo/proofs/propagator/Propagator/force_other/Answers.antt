@@ -13,19 +13,8 @@ value-requires c = below-contains _ _ _ _ c.requires.visiting.below (own-other _
 pub force-requires-clause-inside : goal.force-requires-clause-inside
 force-requires-clause-inside c = below-contains _ _ _ _ c.requires.visiting.below (own-other _ _ _ _ _ _ c.requires.visiting.propagator c.requires.pair)
 
-pub returns-in_err-force-in-None-clause-justified :
-    goal.returns-in_err-force-in-None-clause-justified
-returns-in_err-force-in-None-clause-justified c = justified-same _ _ _ c.requires.justified c.in_err-force-in-None.ensures.err
-
 pub pass_by_other-requires-clause-visiting : goal.pass_by_other-requires-clause-visiting
 pass_by_other-requires-clause-visiting c = forces _ _ _ _ _ _ _ _ c.requires.visiting c.in_ok-force-in-None.ensures.ok (value-none _ _ (sym c.in-None.ensures))
-
-pub returns-in_err-outcome-in-None-clause-justified :
-    goal.returns-in_err-outcome-in-None-clause-justified
-returns-in_err-outcome-in-None-clause-justified c =
-    let was = c.requires.visiting.propagator in
-    justified-gains _ _ _ _ _ _ c.requires.justified c.in_ok-force-in-None.ensures.ok (value-none _ _ (sym c.in-None.ensures))
-    (omega (arith, c.requires.inside, was.watched.attached)) (own-other _ _ _ _ _ _ was c.requires.pair) c.requires.unit
 
 pub returns-in_ok-outcome-in-None-clause-justified : goal.returns-in_ok-outcome-in-None-clause-justified
 returns-in_ok-outcome-in-None-clause-justified c =
@@ -42,6 +31,3 @@ returns-in_ok-outcome-in-None-clause-outcome c = grind (arith, common_steps)
 
 pub returns-in_ok-outcome-in-None-clause-open_ones : goal.returns-in_ok-outcome-in-None-clause-open_ones
 returns-in_ok-outcome-in-None-clause-open_ones c = grind (arith, common_steps)
-
-pub returns-in_err-force-in-None-clause-refused : goal.returns-in_err-force-in-None-clause-refused
-returns-in_err-force-in-None-clause-refused c = refused-any _ _ (owned-of _ _ _ c.requires.visiting.propagator)

@@ -9,7 +9,3 @@ use Rattle.resolvo.proofs.propagator.Propagator.pass_by.Goals as goal
 pub returns-clause-outcome : goal.returns-clause-outcome
 returns-clause-outcome c = passes _ _ _ _ _ _ _ c.requires.visiting c.requires.stands c.requires.inside c.requires.satisfied c.note.ensures.watches
     c.note.ensures.pending c.note.ensures.head c.in_ok-note.ensures.late
-
-pub returns-in_err-note-clause-refused : goal.returns-in_err-note-clause-refused
-returns-in_err-note-clause-refused c =
-    refused-any _ _ (owned-same _ _ _ (ap (λ (w : Watches). pairs_of w) c.note.ensures.watches) (owned-of _ _ _ c.requires.visiting.propagator))

@@ -46,21 +46,6 @@ returns c =
       total = c.watchers.invariant.total;
     }
 
-pub returns-in_err-next : goal.returns-in_err-next
-returns-in_err-next c =
-    record {
-      conflict = IfOk-from_err c.from_residual.result _ c.from_residual.ensures.0;
-      head = IfOk-from_err c.from_residual.result _ c.from_residual.ensures.0;
-      propagator = IfOk-from_err c.from_residual.result _ c.from_residual.ensures.0;
-      attached = IfOk-from_err c.from_residual.result _ c.from_residual.ensures.0;
-      refused = refused-any _ _ c.in_err-next.ensures.refused;
-      justified = c.visit_watcher.ensures.justified;
-      extends = extends-trans _ _ _ c.watchers.invariant.extends c.visit_watcher.ensures.extends;
-      size = c.visit_watcher.ensures.size ∙ c.watchers.invariant.size;
-      open_ones = omega (arith, c.visit_watcher.ensures.open_ones, c.watchers.invariant.open_ones);
-      total = c.visit_watcher.ensures.total ∙ c.watchers.invariant.total;
-    }
-
 pub returns-in-Conflict : goal.returns-in-Conflict
 returns-in-Conflict c =
     record {

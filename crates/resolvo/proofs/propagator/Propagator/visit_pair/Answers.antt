@@ -43,27 +43,3 @@ returns-then-is_true c =
       open_ones = omega arith;
       total = refl;
     }
-
-pub returns-in_err-outcome : goal.returns-in_err-outcome
-returns-in_err-outcome c =
-    record {
-      outcome = IfOk-from_err c.from_residual.result _ c.from_residual.ensures.0;
-      refused = refused-any _ _ c.in_err-outcome.ensures.refused;
-      justified = c.requires.justified;
-      extends = extends-same c.args.trail.now;
-      size = refl;
-      open_ones = omega arith;
-      total = refl;
-    }
-
-pub returns-in_err-outcome-2 : goal.returns-in_err-outcome-2
-returns-in_err-outcome-2 c =
-    record {
-      outcome = IfOk-from_err c.from_residual-in_err-outcome-2.result _ c.from_residual-in_err-outcome-2.ensures.0;
-      refused = refused-any _ _ c.in_err-outcome-2.ensures.refused;
-      justified = c.find_replacement.ensures.justified;
-      extends = c.find_replacement.ensures.extends;
-      size = c.find_replacement.ensures.size;
-      open_ones = c.find_replacement.ensures.open_ones;
-      total = c.find_replacement.ensures.total;
-    }

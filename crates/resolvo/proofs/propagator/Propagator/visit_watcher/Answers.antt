@@ -64,41 +64,5 @@ returns-then-is_forced c =
 pub force_binary-requires-clause-free : goal.force_binary-requires-clause-free
 force_binary-requires-clause-free c = sym c.value-value.ensures ∙ (c.is_forced.ensures c.if-is_forced.true).1
 
-pub returns-in_err-outcome : goal.returns-in_err-outcome
-returns-in_err-outcome c =
-    record {
-      outcome = IfOk-from_err c.from_residual.result _ c.from_residual.ensures.0;
-      refused = refused-any _ _ c.in_err-outcome.ensures.refused;
-      justified = c.requires.justified;
-      extends = extends-same c.args.trail.now;
-      size = refl;
-      open_ones = omega arith;
-      total = refl;
-    }
-
-pub returns-in_err-outcome-2 : goal.returns-in_err-outcome-2
-returns-in_err-outcome-2 c =
-    record {
-      outcome = IfOk-from_err c.from_residual-in_err-outcome-2.result _ c.from_residual-in_err-outcome-2.ensures.0;
-      refused = refused-any _ _ c.in_err-outcome-2.ensures.refused;
-      justified = c.force_binary.ensures.justified;
-      extends = c.force_binary.ensures.extends;
-      size = c.force_binary.ensures.size;
-      open_ones = c.force_binary.ensures.open_ones;
-      total = c.force_binary.ensures.total;
-    }
-
-pub returns-in_err-outcome-3 : goal.returns-in_err-outcome-3
-returns-in_err-outcome-3 c =
-    record {
-      outcome = IfOk-from_err c.from_residual-in_err-outcome-3.result _ c.from_residual-in_err-outcome-3.ensures.0;
-      refused = refused-any _ _ c.in_err-outcome-3.ensures.refused;
-      justified = c.visit_pair.ensures.justified;
-      extends = c.visit_pair.ensures.extends;
-      size = c.visit_pair.ensures.size;
-      open_ones = c.visit_pair.ensures.open_ones;
-      total = c.visit_pair.ensures.total;
-    }
-
 pub pass_by-requires-clause-stands : goal.pass_by-requires-clause-stands
 pass_by-requires-clause-stands c = stands-placed _ c.args.placed.now c.requires.stands

@@ -19,20 +19,6 @@ returns c =
       open_ones = c.places.invariant.open_ones;
     }
 
-pub returns-in_err-number : goal.returns-in_err-number
-returns-in_err-number c =
-    record {
-      conflict = IfOk-from_err c.from_residual.result _ c.from_residual.ensures.0;
-      settled = IfOk-from_err c.from_residual.result _ c.from_residual.ensures.0;
-      propagator = IfOk-from_err c.from_residual.result _ c.from_residual.ensures.0;
-      attached = IfOk-from_err c.from_residual.result _ c.from_residual.ensures.0;
-      refused = refused-any _ _ c.in_err-number.ensures.refused;
-      justified = c.visit.ensures.justified;
-      extends = extends-trans _ _ _ c.places.invariant.extends c.visit.ensures.extends;
-      size = c.visit.ensures.size ∙ c.places.invariant.size;
-      open_ones = omega (arith, c.visit.ensures.open_ones, c.places.invariant.open_ones);
-    }
-
 pub returns-in-Some : goal.returns-in-Some
 returns-in-Some c =
     record {

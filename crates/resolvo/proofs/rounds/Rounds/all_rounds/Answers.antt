@@ -26,17 +26,6 @@ rounds-preserved g c = record {
   room = room_trans c.args.self.now c.rounds.self c.rounds_until_read.new.self c.rounds.invariant.room c.in_ok-found.ensures.limits;
 }
 
-pub returns-in_err-found : goal.returns-in_err-found
-returns-in_err-found g c =
-    record {
-      is_true = c.rounds_until_read.ensures.is_true;
-      rounds = IfOk-from_err c.from_residual.result _ c.from_residual.ensures.0;
-      keeps = IfOk-from_err c.from_residual.result _ c.from_residual.ensures.0;
-      found = IfOk-from_err c.from_residual.result _ c.from_residual.ensures.0;
-      limits = room_trans c.args.self.now c.rounds.self c.rounds_until_read.new.self c.rounds.invariant.room c.rounds_until_read.ensures.limits;
-      refusal = IfErr-of c.from_residual.result _ _ c.from_residual.ensures.1 c.in_err-found.ensures.refusal;
-    }
-
 pub rounds-init : goal.rounds-init
 rounds-init g c =
     let u = g.D.Interner.universe c.args.provider.now in

@@ -48,29 +48,3 @@ returns g c =
       limits = room_trans c.args.self.now (record c.args.self.now { encoding = c.ask.new.self }) c.load.new.self (record { notes = c.ask.ensures.limits; clauses = refl; learnt = refl }) c.load.ensures.limits;
       refusal = tt;
     }
-
-pub returns-in_err-ask : goal.returns-in_err-ask
-returns-in_err-ask g c =
-    record {
-      is_true = c.ask.ensures.is_true;
-      rounds = IfOk-from_err c.from_residual.result _ c.from_residual.ensures.0;
-      still = IfOk-from_err c.from_residual.result _ c.from_residual.ensures.0;
-      chosen = IfOk-from_err c.from_residual.result _ c.from_residual.ensures.0;
-      alone = IfOk-from_err c.from_residual.result _ c.from_residual.ensures.0;
-      standing = IfOk-from_err c.from_residual.result _ c.from_residual.ensures.0;
-      limits = record { notes = c.ask.ensures.limits; clauses = refl; learnt = refl };
-      refusal = IfErr-of c.from_residual.result _ _ c.from_residual.ensures.1 (full_stop (g.D.DependencyProvider.may_cancel c.args.provider.now) (record c.args.self.now { encoding = c.ask.new.self }) _ c.in_err-ask.ensures.refusal);
-    }
-
-pub returns-in_err-load : goal.returns-in_err-load
-returns-in_err-load g c =
-    record {
-      is_true = c.ask.ensures.is_true;
-      rounds = IfOk-from_err c.from_residual-in_err-load.result _ c.from_residual-in_err-load.ensures.0;
-      still = IfOk-from_err c.from_residual-in_err-load.result _ c.from_residual-in_err-load.ensures.0;
-      chosen = IfOk-from_err c.from_residual-in_err-load.result _ c.from_residual-in_err-load.ensures.0;
-      alone = IfOk-from_err c.from_residual-in_err-load.result _ c.from_residual-in_err-load.ensures.0;
-      standing = IfOk-from_err c.from_residual-in_err-load.result _ c.from_residual-in_err-load.ensures.0;
-      limits = room_trans c.args.self.now (record c.args.self.now { encoding = c.ask.new.self }) c.load.new.self (record { notes = c.ask.ensures.limits; clauses = refl; learnt = refl }) c.load.ensures.limits;
-      refusal = IfErr-of c.from_residual-in_err-load.result _ _ c.from_residual-in_err-load.ensures.1 (shortage_of_memory _ _ c.in_err-load.ensures.memory);
-    }

@@ -76,53 +76,6 @@ returns g c =
       refusal = tt;
     }
 
-pub returns-in_err-begin_turn : goal.returns-in_err-begin_turn
-returns-in_err-begin_turn g c =
-    record {
-      is_true = c.requires.is_true;
-      rounds = IfOk-from_err c.from_residual.result _ c.from_residual.ensures.0;
-      still = IfOk-from_err c.from_residual.result _ c.from_residual.ensures.0;
-      turned = IfOk-from_err c.from_residual.result _ c.from_residual.ensures.0;
-      limits = record { notes = limits_begun _ _ _ c.begin_turn.ensures.only; clauses = refl; learnt = refl };
-      refusal = IfErr-of c.from_residual.result _ _ c.from_residual.ensures.1 (shortage_of_memory _ _ c.in_err-begin_turn.ensures.memory);
-    }
-
-pub returns-in_err-assume : goal.returns-in_err-assume
-returns-in_err-assume g c =
-    record {
-      is_true = c.requires.is_true;
-      rounds = IfOk-from_err c.from_residual-in_err-assume.result _ c.from_residual-in_err-assume.ensures.0;
-      still = IfOk-from_err c.from_residual-in_err-assume.result _ c.from_residual-in_err-assume.ensures.0;
-      turned = IfOk-from_err c.from_residual-in_err-assume.result _ c.from_residual-in_err-assume.ensures.0;
-      limits = record { notes = limits_begun _ _ _ c.begin_turn.ensures.only; clauses = refl; learnt = refl };
-      refusal = IfErr-of c.from_residual-in_err-assume.result _ _ c.from_residual-in_err-assume.ensures.1 tt;
-    }
-
-pub returns-in_err-answered : goal.returns-in_err-answered
-returns-in_err-answered g c =
-    record {
-      is_true = c.is_answered.ensures.is_true;
-      rounds = IfOk-from_err c.from_residual-in_err-answered.result _ c.from_residual-in_err-answered.ensures.0;
-      still = IfOk-from_err c.from_residual-in_err-answered.result _ c.from_residual-in_err-answered.ensures.0;
-      turned = IfOk-from_err c.from_residual-in_err-answered.result _ c.from_residual-in_err-answered.ensures.0;
-      limits = room_trans c.args.self.now (record c.args.self.now { encoding = c.begin_turn.new.self; search = c.assume.new.self }) c.is_answered.new.self
-          (record { notes = limits_begun _ _ _ c.begin_turn.ensures.only; clauses = refl; learnt = refl }) c.is_answered.ensures.limits;
-      refusal = IfErr-of c.from_residual-in_err-answered.result _ _ c.from_residual-in_err-answered.ensures.1 c.in_err-answered.ensures.refusal;
-    }
-
-pub returns-in_err-refuse : goal.returns-in_err-refuse
-returns-in_err-refuse g c =
-    record {
-      is_true = c.refuse.ensures.is_true;
-      rounds = IfOk-from_err c.from_residual-in_err-refuse.result _ c.from_residual-in_err-refuse.ensures.0;
-      still = IfOk-from_err c.from_residual-in_err-refuse.result _ c.from_residual-in_err-refuse.ensures.0;
-      turned = IfOk-from_err c.from_residual-in_err-refuse.result _ c.from_residual-in_err-refuse.ensures.0;
-      limits = room_trans c.args.self.now c.is_answered.new.self c.refuse.new.self
-          (room_trans c.args.self.now (record c.args.self.now { encoding = c.begin_turn.new.self; search = c.assume.new.self }) c.is_answered.new.self
-          (record { notes = limits_begun _ _ _ c.begin_turn.ensures.only; clauses = refl; learnt = refl }) c.is_answered.ensures.limits) c.refuse.ensures.limits;
-      refusal = IfErr-of c.from_residual-in_err-refuse.result _ _ c.from_residual-in_err-refuse.ensures.1 c.in_err-refuse.ensures.refusal;
-    }
-
 pub refuse-requires-clause-one_turn : goal.refuse-requires-clause-one_turn
 refuse-requires-clause-one_turn g c =
     omega (arith, ap length c.in_ok-answered.ensures.keeps.exempt, c.begin_turn.ensures.few, ap length c.exempt-exempt.ensures)

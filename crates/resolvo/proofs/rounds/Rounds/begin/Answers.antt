@@ -24,16 +24,3 @@ returns g c =
       limits = record { notes = c.read_root.ensures.limits; clauses = refl; learnt = refl };
       refusal = tt;
     }
-
-pub returns-in_err-read_root : goal.returns-in_err-read_root
-returns-in_err-read_root g c =
-    record {
-      is_true = c.read_root.ensures.is_true;
-      rounds = IfOk-from_err c.from_residual.result _ c.from_residual.ensures.0;
-      read = IfOk-from_err c.from_residual.result _ c.from_residual.ensures.0;
-      near = IfOk-from_err c.from_residual.result _ c.from_residual.ensures.0;
-      exempt = IfOk-from_err c.from_residual.result _ c.from_residual.ensures.0;
-      turn = IfOk-from_err c.from_residual.result _ c.from_residual.ensures.0;
-      limits = record { notes = c.read_root.ensures.limits; clauses = refl; learnt = refl };
-      refusal = IfErr-of c.from_residual.result _ _ c.from_residual.ensures.1 (full_stop (g.D.DependencyProvider.may_cancel c.args.provider.now) (record c.args.self.now { encoding = c.read_root.new.self }) _ c.in_err-read_root.ensures.refusal);
-    }

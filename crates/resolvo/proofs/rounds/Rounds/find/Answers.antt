@@ -71,38 +71,6 @@ returns-in-Refused g c =
       refusal = tt;
     }
 
-pub returns-in_err-begin : goal.returns-in_err-begin
-returns-in_err-begin g c =
-    record {
-      is_true = c.begin.ensures.is_true;
-      done = IfOk-from_err c.from_residual.result _ c.from_residual.ensures.0;
-      table = IfOk-from_err c.from_residual.result _ c.from_residual.ensures.0;
-      limits = c.begin.ensures.limits;
-      refusal = IfErr-of c.from_residual.result _ _ c.from_residual.ensures.1 c.in_err-begin.ensures.refusal;
-    }
-
-pub returns-in_err-all_rounds : goal.returns-in_err-all_rounds
-returns-in_err-all_rounds g c =
-    record {
-      is_true = c.all_rounds.ensures.is_true;
-      done = IfOk-from_err c.from_residual-in_err-all_rounds.result _ c.from_residual-in_err-all_rounds.ensures.0;
-      table = IfOk-from_err c.from_residual-in_err-all_rounds.result _ c.from_residual-in_err-all_rounds.ensures.0;
-      limits = room_trans c.args.self.now c.begin.new.self c.all_rounds.new.self c.begin.ensures.limits c.all_rounds.ensures.limits;
-      refusal = IfErr-of c.from_residual-in_err-all_rounds.result _ _ c.from_residual-in_err-all_rounds.ensures.1 c.in_err-all_rounds.ensures.refusal;
-    }
-
-pub returns-in_err-soft_turns-in-Answer : goal.returns-in_err-soft_turns-in-Answer
-returns-in_err-soft_turns-in-Answer g c =
-    record {
-      is_true = c.soft_turns.ensures.is_true;
-      done = IfOk-from_err c.from_residual-in_err-soft_turns-in-Answer.result _ c.from_residual-in_err-soft_turns-in-Answer.ensures.0;
-      table = IfOk-from_err c.from_residual-in_err-soft_turns-in-Answer.result _ c.from_residual-in_err-soft_turns-in-Answer.ensures.0;
-      limits = let first = room_trans c.args.self.now c.begin.new.self c.all_rounds.new.self c.begin.ensures.limits c.all_rounds.ensures.limits in
-          room_trans c.args.self.now (record c.all_rounds.new.self { search = c.hold.new.self }) c.soft_turns.new.self
-          (record { notes = first.notes; clauses = first.clauses; learnt = first.learnt }) c.soft_turns.ensures.limits;
-      refusal = IfErr-of c.from_residual-in_err-soft_turns-in-Answer.result _ _ c.from_residual-in_err-soft_turns-in-Answer.ensures.1 c.in_err-soft_turns-in-Answer.ensures.refusal;
-    }
-
 pub hold-requires-clause-bookmarked : goal.hold-requires-clause-bookmarked
 hold-requires-clause-bookmarked g c =
     let u = g.D.Interner.universe c.args.provider.now in

@@ -17,14 +17,3 @@ returns-in_ok-solvable_turns-in-Some g c =
       limits = c.solvable_turns.ensures.limits;
       refusal = tt;
     }
-
-pub returns-in_err-solvable_turns-in-Some : goal.returns-in_err-solvable_turns-in-Some
-returns-in_err-solvable_turns-in-Some g c =
-    record {
-      is_true = c.solvable_turns.ensures.is_true;
-      rounds = IfOk-from_err c.from_residual.result _ c.from_residual.ensures.0;
-      still = IfOk-from_err c.from_residual.result _ c.from_residual.ensures.0;
-      between = IfOk-from_err c.from_residual.result _ c.from_residual.ensures.0;
-      limits = c.solvable_turns.ensures.limits;
-      refusal = IfErr-of c.from_residual.result _ _ c.from_residual.ensures.1 c.in_err-solvable_turns-in-Some.ensures.refusal;
-    }

@@ -24,18 +24,6 @@ returns-clause-is_true g c = c.all_rounds.ensures.is_true
 pub returns-clause-limits : goal.returns-clause-limits
 returns-clause-limits g c = c.all_rounds.ensures.limits
 
-pub returns-in_err-all_rounds : goal.returns-in_err-all_rounds
-returns-in_err-all_rounds g c =
-    record {
-      is_true = c.all_rounds.ensures.is_true;
-      rounds = IfOk-from_err c.from_residual.result _ c.from_residual.ensures.0;
-      keeps = IfOk-from_err c.from_residual.result _ c.from_residual.ensures.0;
-      answer = IfOk-from_err c.from_residual.result _ c.from_residual.ensures.0;
-      unanswered = IfOk-from_err c.from_residual.result _ c.from_residual.ensures.0;
-      limits = c.all_rounds.ensures.limits;
-      refusal = IfErr-of c.from_residual.result _ _ c.from_residual.ensures.1 c.in_err-all_rounds.ensures.refusal;
-    }
-
 pub returns-clause-answer : goal.returns-clause-answer
 returns-clause-answer g c =
     let u = g.D.Interner.universe c.args.provider.now in

@@ -50,13 +50,3 @@ returns g c =
       limits = c.loop-requirement.invariant.room;
       refusal = tt;
     }
-
-pub returns-in_err-soft_turn : goal.returns-in_err-soft_turn
-returns-in_err-soft_turn g c =
-    record {
-      is_true = c.soft_turn.ensures.is_true;
-      rounds = IfOk-from_err c.from_residual.result _ c.from_residual.ensures.0;
-      between = IfOk-from_err c.from_residual.result _ c.from_residual.ensures.0;
-      limits = room_trans c.args.self.now c.loop-requirement.self c.soft_turn.new.self c.loop-requirement.invariant.room c.soft_turn.ensures.limits;
-      refusal = IfErr-of c.from_residual.result _ _ c.from_residual.ensures.1 c.in_err-soft_turn.ensures.refusal;
-    }

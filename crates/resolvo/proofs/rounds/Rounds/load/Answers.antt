@@ -48,27 +48,3 @@ returns g c =
       limits = record { notes = record { variables = refl; clauses = refl }; clauses = refl; learnt = refl };
       memory = tt;
     }
-
-pub returns-in_err-follow : goal.returns-in_err-follow
-returns-in_err-follow g c =
-    record {
-      rounds = IfOk-from_err c.from_residual.result _ c.from_residual.ensures.0;
-      loaded = IfOk-from_err c.from_residual.result _ c.from_residual.ensures.0;
-      same = record { encoding = refl; chosen = refl };
-      turn = IfOk-from_err c.from_residual.result _ c.from_residual.ensures.0;
-      still = IfOk-from_err c.from_residual.result _ c.from_residual.ensures.0;
-      limits = record { notes = record { variables = refl; clauses = refl }; clauses = refl; learnt = refl };
-      memory = IfErr-of c.from_residual.result _ _ c.from_residual.ensures.1 c.in_err-follow.ensures.memory;
-    }
-
-pub returns-in_err-load : goal.returns-in_err-load
-returns-in_err-load g c =
-    record {
-      rounds = IfOk-from_err c.from_residual-in_err-load.result _ c.from_residual-in_err-load.ensures.0;
-      loaded = IfOk-from_err c.from_residual-in_err-load.result _ c.from_residual-in_err-load.ensures.0;
-      same = record { encoding = refl; chosen = refl };
-      turn = IfOk-from_err c.from_residual-in_err-load.result _ c.from_residual-in_err-load.ensures.0;
-      still = IfOk-from_err c.from_residual-in_err-load.result _ c.from_residual-in_err-load.ensures.0;
-      limits = record { notes = record { variables = refl; clauses = refl }; clauses = refl; learnt = refl };
-      memory = IfErr-of c.from_residual-in_err-load.result _ _ c.from_residual-in_err-load.ensures.1 c.in_err-load.ensures.memory;
-    }

@@ -58,38 +58,6 @@ returns g c =
       refusal = tt;
     }
 
-pub returns-in_err-from : goal.returns-in_err-from
-returns-in_err-from g c =
-    record {
-      is_true = c.requires.is_true;
-      rounds = IfOk-from_err c.from_residual.result _ c.from_residual.ensures.0;
-      keeps = IfOk-from_err c.from_residual.result _ c.from_residual.ensures.0;
-      followed = IfOk-from_err c.from_residual.result _ c.from_residual.ensures.0;
-      progress = IfOk-from_err c.from_residual.result _ c.from_residual.ensures.0;
-      fit = IfOk-from_err c.from_residual.result _ c.from_residual.ensures.0;
-      limits = c.follow.ensures.limits;
-      refusal = IfErr-of c.from_residual.result _ _ c.from_residual.ensures.1 (shortage_of_memory _ _ c.in_err-from.ensures.memory);
-    }
-
-pub returns-in_err-progress : goal.returns-in_err-progress
-returns-in_err-progress g c =
-    record {
-      is_true = c.read_chosen.ensures.is_true;
-      rounds = IfOk-from_err c.from_residual-in_err-progress.result _ c.from_residual-in_err-progress.ensures.0;
-      keeps = IfOk-from_err c.from_residual-in_err-progress.result _ c.from_residual-in_err-progress.ensures.0;
-      followed = IfOk-from_err c.from_residual-in_err-progress.result _ c.from_residual-in_err-progress.ensures.0;
-      progress = IfOk-from_err c.from_residual-in_err-progress.result _ c.from_residual-in_err-progress.ensures.0;
-      fit = IfOk-from_err c.from_residual-in_err-progress.result _ c.from_residual-in_err-progress.ensures.0;
-      limits = let mid = c.follow.ensures.limits in
-          let kept = c.read_chosen.ensures.limits in
-          record {
-            notes = record { variables = kept.variables ∙ mid.notes.variables; clauses = kept.clauses ∙ mid.notes.clauses };
-            clauses = mid.clauses;
-            learnt = mid.learnt;
-          };
-      refusal = IfErr-of c.from_residual-in_err-progress.result _ _ c.from_residual-in_err-progress.ensures.1 (full_stop (g.D.DependencyProvider.may_cancel c.args.provider.now) (record c.follow.new.self { encoding = c.read_chosen.new.self }) _ c.in_err-progress.ensures.refusal);
-    }
-
 pub follow-requires-clause-distinct : goal.follow-requires-clause-distinct
 follow-requires-clause-distinct g c = c.requires.rounds.reading.so_far.half.encoding.distinct
 

@@ -39,29 +39,3 @@ returns-then-branch g c =
       limits = room_trans old mid c.read.new.self c.decide_after_failure.ensures.limits c.read.ensures.limits;
       refusal = tt;
     }
-
-pub returns-in_err-decide_after_failure : goal.returns-in_err-decide_after_failure
-returns-in_err-decide_after_failure g c =
-    record {
-      is_true = c.requires.is_true;
-      rounds = IfOk-from_err c.from_residual.result _ c.from_residual.ensures.0;
-      keeps = IfOk-from_err c.from_residual.result _ c.from_residual.ensures.0;
-      progress = IfOk-from_err c.from_residual.result _ c.from_residual.ensures.0;
-      fit = IfOk-from_err c.from_residual.result _ c.from_residual.ensures.0;
-      limits = c.decide_after_failure.ensures.limits;
-      refusal = IfErr-of c.from_residual.result _ _ c.from_residual.ensures.1 c.in_err-decide_after_failure.ensures.refusal;
-    }
-
-pub returns-in_err-progress : goal.returns-in_err-progress
-returns-in_err-progress g c =
-    let old = c.args.self.now in
-    let mid = c.decide_after_failure.new.self in
-    record {
-      is_true = c.read.ensures.is_true;
-      rounds = IfOk-from_err c.from_residual-in_err-progress.result _ c.from_residual-in_err-progress.ensures.0;
-      keeps = IfOk-from_err c.from_residual-in_err-progress.result _ c.from_residual-in_err-progress.ensures.0;
-      progress = IfOk-from_err c.from_residual-in_err-progress.result _ c.from_residual-in_err-progress.ensures.0;
-      fit = IfOk-from_err c.from_residual-in_err-progress.result _ c.from_residual-in_err-progress.ensures.0;
-      limits = room_trans old mid c.read.new.self c.decide_after_failure.ensures.limits c.read.ensures.limits;
-      refusal = IfErr-of c.from_residual-in_err-progress.result _ _ c.from_residual-in_err-progress.ensures.1 c.in_err-progress.ensures.refusal;
-    }

@@ -112,69 +112,6 @@ returns g c =
       refusal = tt;
     }
 
-pub returns-in_err-end_turn : goal.returns-in_err-end_turn
-returns-in_err-end_turn g c =
-    record {
-      is_true = c.end_turn.ensures.is_true;
-      rounds = IfOk-from_err c.from_residual.result _ c.from_residual.ensures.0;
-      still = IfOk-from_err c.from_residual.result _ c.from_residual.ensures.0;
-      refused = IfOk-from_err c.from_residual.result _ c.from_residual.ensures.0;
-      limits = record { notes = c.end_turn.ensures.limits; clauses = refl; learnt = refl };
-      refusal = IfErr-of c.from_residual.result _ _ c.from_residual.ensures.1 (full_stop (g.D.DependencyProvider.may_cancel c.args.provider.now) (record c.args.self.now { encoding = c.end_turn.new.self }) _ c.in_err-end_turn.ensures.refusal);
-    }
-
-pub returns-in_err-load : goal.returns-in_err-load
-returns-in_err-load g c =
-    record {
-      is_true = c.end_turn.ensures.is_true;
-      rounds = IfOk-from_err c.from_residual-in_err-load.result _ c.from_residual-in_err-load.ensures.0;
-      still = IfOk-from_err c.from_residual-in_err-load.result _ c.from_residual-in_err-load.ensures.0;
-      refused = IfOk-from_err c.from_residual-in_err-load.result _ c.from_residual-in_err-load.ensures.0;
-      limits = room_trans c.args.self.now (record c.args.self.now { encoding = c.end_turn.new.self }) c.load.new.self
-          (record { notes = c.end_turn.ensures.limits; clauses = refl; learnt = refl }) c.load.ensures.limits;
-      refusal = IfErr-of c.from_residual-in_err-load.result _ _ c.from_residual-in_err-load.ensures.1 (shortage_of_memory _ _ c.in_err-load.ensures.memory);
-    }
-
-pub returns-in_err-retract : goal.returns-in_err-retract
-returns-in_err-retract g c =
-    record {
-      is_true = c.end_turn.ensures.is_true;
-      rounds = IfOk-from_err c.from_residual-in_err-retract.result _ c.from_residual-in_err-retract.ensures.0;
-      still = IfOk-from_err c.from_residual-in_err-retract.result _ c.from_residual-in_err-retract.ensures.0;
-      refused = IfOk-from_err c.from_residual-in_err-retract.result _ c.from_residual-in_err-retract.ensures.0;
-      limits = let loaded = room_trans c.args.self.now (record c.args.self.now { encoding = c.end_turn.new.self }) c.load.new.self
-          (record { notes = c.end_turn.ensures.limits; clauses = refl; learnt = refl }) c.load.ensures.limits in
-          record { notes = loaded.notes; clauses = loaded.clauses; learnt = loaded.learnt };
-      refusal = IfErr-of c.from_residual-in_err-retract.result _ _ c.from_residual-in_err-retract.ensures.1 tt;
-    }
-
-pub returns-in_err-assume : goal.returns-in_err-assume
-returns-in_err-assume g c =
-    record {
-      is_true = c.end_turn.ensures.is_true;
-      rounds = IfOk-from_err c.from_residual-in_err-assume.result _ c.from_residual-in_err-assume.ensures.0;
-      still = IfOk-from_err c.from_residual-in_err-assume.result _ c.from_residual-in_err-assume.ensures.0;
-      refused = IfOk-from_err c.from_residual-in_err-assume.result _ c.from_residual-in_err-assume.ensures.0;
-      limits = let loaded = room_trans c.args.self.now (record c.args.self.now { encoding = c.end_turn.new.self }) c.load.new.self
-          (record { notes = c.end_turn.ensures.limits; clauses = refl; learnt = refl }) c.load.ensures.limits in
-          record { notes = loaded.notes; clauses = loaded.clauses; learnt = loaded.learnt };
-      refusal = IfErr-of c.from_residual-in_err-assume.result _ _ c.from_residual-in_err-assume.ensures.1 tt;
-    }
-
-pub returns-in_err-follow : goal.returns-in_err-follow
-returns-in_err-follow g c =
-    record {
-      is_true = c.end_turn.ensures.is_true;
-      rounds = IfOk-from_err c.from_residual-in_err-follow.result _ c.from_residual-in_err-follow.ensures.0;
-      still = IfOk-from_err c.from_residual-in_err-follow.result _ c.from_residual-in_err-follow.ensures.0;
-      refused = IfOk-from_err c.from_residual-in_err-follow.result _ c.from_residual-in_err-follow.ensures.0;
-      limits = let loaded = room_trans c.args.self.now (record c.args.self.now { encoding = c.end_turn.new.self }) c.load.new.self
-          (record { notes = c.end_turn.ensures.limits; clauses = refl; learnt = refl }) c.load.ensures.limits in
-          room_trans c.args.self.now (record c.load.new.self { search = c.assume.new.self }) c.follow.new.self
-          (record { notes = loaded.notes; clauses = loaded.clauses; learnt = loaded.learnt }) c.follow.ensures.limits;
-      refusal = IfErr-of c.from_residual-in_err-follow.result _ _ c.from_residual-in_err-follow.ensures.1 (shortage_of_memory _ _ c.in_err-follow.ensures.memory);
-    }
-
 pub assume-requires-clause-bookmarked : goal.assume-requires-clause-bookmarked
 assume-requires-clause-bookmarked g c = c.in_ok-retract.ensures.count
 

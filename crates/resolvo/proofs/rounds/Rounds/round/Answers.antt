@@ -25,18 +25,3 @@ returns-in_ok-round-in-Nothing g c =
       limits = room_trans old mid new c.read_after_failure.ensures.limits c.search_and_read.ensures.limits;
       refusal = tt;
     }
-
-pub returns-in_err-round-in-Nothing : goal.returns-in_err-round-in-Nothing
-returns-in_err-round-in-Nothing g c =
-    let old = c.args.self.now in
-    let mid = c.read_after_failure.new.self in
-    let new = c.search_and_read.new.self in
-    record {
-      is_true = c.search_and_read.ensures.is_true;
-      rounds = IfOk-from_err c.from_residual-in_err-round-in-Nothing.result _ c.from_residual-in_err-round-in-Nothing.ensures.0;
-      keeps = IfOk-from_err c.from_residual-in_err-round-in-Nothing.result _ c.from_residual-in_err-round-in-Nothing.ensures.0;
-      round = IfOk-from_err c.from_residual-in_err-round-in-Nothing.result _ c.from_residual-in_err-round-in-Nothing.ensures.0;
-      limits = room_trans old mid new c.read_after_failure.ensures.limits c.search_and_read.ensures.limits;
-      refusal = IfErr-of c.from_residual-in_err-round-in-Nothing.result _ _ c.from_residual-in_err-round-in-Nothing.ensures.1
-          c.in_err-round-in-Nothing.ensures.refusal;
-    }

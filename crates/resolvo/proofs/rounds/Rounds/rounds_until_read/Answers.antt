@@ -52,19 +52,6 @@ rounds-preserved g c =
       read = fired.0 ∙ c.rounds.invariant.read;
     }
 
-pub returns-in_err-found : goal.returns-in_err-found
-returns-in_err-found g c =
-    record {
-      is_true = c.round.ensures.is_true;
-      rounds = IfOk-from_err c.from_residual.result _ c.from_residual.ensures.0;
-      keeps = IfOk-from_err c.from_residual.result _ c.from_residual.ensures.0;
-      found = IfOk-from_err c.from_residual.result _ c.from_residual.ensures.0;
-      read = IfOk-from_err c.from_residual.result _ c.from_residual.ensures.0;
-      fit = IfOk-from_err c.from_residual.result _ c.from_residual.ensures.0;
-      limits = room_trans c.args.self.now c.rounds.self c.round.new.self c.rounds.invariant.room c.round.ensures.limits;
-      refusal = IfErr-of c.from_residual.result _ _ c.from_residual.ensures.1 c.in_err-found.ensures.refusal;
-    }
-
 pub rounds-init : goal.rounds-init
 rounds-init g c =
     let u = g.D.Interner.universe c.args.provider.now in

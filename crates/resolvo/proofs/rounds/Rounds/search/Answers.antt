@@ -30,28 +30,3 @@ returns g c =
           record { notes = loaded.notes; clauses = loaded.clauses; learnt = loaded.learnt };
       refusal = tt;
     }
-
-pub returns-in_err-outcome : goal.returns-in_err-outcome
-returns-in_err-outcome g c =
-    record {
-      rounds = IfOk-from_err c.from_residual-in_err-outcome.result _ c.from_residual-in_err-outcome.ensures.0;
-      loaded = IfOk-from_err c.from_residual-in_err-outcome.result _ c.from_residual-in_err-outcome.ensures.0;
-      same = record { encoding = c.load.ensures.same.encoding; chosen = c.load.ensures.same.chosen };
-      turn = IfOk-from_err c.from_residual-in_err-outcome.result _ c.from_residual-in_err-outcome.ensures.0;
-      outcome = IfOk-from_err c.from_residual-in_err-outcome.result _ c.from_residual-in_err-outcome.ensures.0;
-      limits = let loaded = c.load.ensures.limits in
-          record { notes = loaded.notes; clauses = loaded.clauses; learnt = loaded.learnt };
-      refusal = IfErr-of c.from_residual-in_err-outcome.result _ _ c.from_residual-in_err-outcome.ensures.1 (searched_stop (g.D.DependencyProvider.may_cancel c.args.provider.now) (record c.load.new.self { search = c.run.new.self }) _ c.in_err-outcome.ensures.refusal);
-    }
-
-pub returns-in_err-load : goal.returns-in_err-load
-returns-in_err-load g c =
-    record {
-      rounds = IfOk-from_err c.from_residual.result _ c.from_residual.ensures.0;
-      loaded = IfOk-from_err c.from_residual.result _ c.from_residual.ensures.0;
-      same = c.load.ensures.same;
-      turn = IfOk-from_err c.from_residual.result _ c.from_residual.ensures.0;
-      outcome = IfOk-from_err c.from_residual.result _ c.from_residual.ensures.0;
-      limits = c.load.ensures.limits;
-      refusal = IfErr-of c.from_residual.result _ _ c.from_residual.ensures.1 (shortage_of_memory _ _ c.in_err-load.ensures.memory);
-    }

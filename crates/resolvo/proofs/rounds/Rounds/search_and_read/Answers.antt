@@ -99,25 +99,3 @@ returns-in-Read g c =
       limits = room_trans c.args.self.now c.search.new.self c.read.new.self c.search.ensures.limits c.read.ensures.limits;
       refusal = tt;
     }
-
-pub returns-in_err-core : goal.returns-in_err-core
-returns-in_err-core g c =
-    record {
-      is_true = c.requires.is_true;
-      rounds = IfOk-from_err c.from_residual.result _ c.from_residual.ensures.0;
-      keeps = IfOk-from_err c.from_residual.result _ c.from_residual.ensures.0;
-      round = IfOk-from_err c.from_residual.result _ c.from_residual.ensures.0;
-      limits = c.search.ensures.limits;
-      refusal = IfErr-of c.from_residual.result _ _ c.from_residual.ensures.1 c.in_err-core.ensures.refusal;
-    }
-
-pub returns-in_err-read-in-Finished : goal.returns-in_err-read-in-Finished
-returns-in_err-read-in-Finished g c =
-    record {
-      is_true = c.read.ensures.is_true;
-      rounds = IfOk-from_err c.from_residual-in_err-read-in-Finished.result _ c.from_residual-in_err-read-in-Finished.ensures.0;
-      keeps = IfOk-from_err c.from_residual-in_err-read-in-Finished.result _ c.from_residual-in_err-read-in-Finished.ensures.0;
-      round = IfOk-from_err c.from_residual-in_err-read-in-Finished.result _ c.from_residual-in_err-read-in-Finished.ensures.0;
-      limits = room_trans c.args.self.now c.search.new.self c.read.new.self c.search.ensures.limits c.read.ensures.limits;
-      refusal = IfErr-of c.from_residual-in_err-read-in-Finished.result _ _ c.from_residual-in_err-read-in-Finished.ensures.1 c.in_err-read-in-Finished.ensures.refusal;
-    }

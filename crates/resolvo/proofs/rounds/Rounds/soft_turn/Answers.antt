@@ -41,25 +41,3 @@ returns-in_ok-version_set_turn-in-Matching g c =
       limits = c.version_set_turn.ensures.limits;
       refusal = tt;
     }
-
-pub returns-in_err-turn-in-Solvable : goal.returns-in_err-turn-in-Solvable
-returns-in_err-turn-in-Solvable g c =
-    record {
-      is_true = c.turn.ensures.is_true;
-      rounds = IfOk-from_err c.from_residual.result _ c.from_residual.ensures.0;
-      still = IfOk-from_err c.from_residual.result _ c.from_residual.ensures.0;
-      between = IfOk-from_err c.from_residual.result _ c.from_residual.ensures.0;
-      limits = c.turn.ensures.limits;
-      refusal = IfErr-of c.from_residual.result _ _ c.from_residual.ensures.1 c.in_err-turn-in-Solvable.ensures.refusal;
-    }
-
-pub returns-in_err-version_set_turn-in-Matching : goal.returns-in_err-version_set_turn-in-Matching
-returns-in_err-version_set_turn-in-Matching g c =
-    record {
-      is_true = c.version_set_turn.ensures.is_true;
-      rounds = IfOk-from_err c.from_residual-in_err-version_set_turn-in-Matching.result _ c.from_residual-in_err-version_set_turn-in-Matching.ensures.0;
-      still = IfOk-from_err c.from_residual-in_err-version_set_turn-in-Matching.result _ c.from_residual-in_err-version_set_turn-in-Matching.ensures.0;
-      between = IfOk-from_err c.from_residual-in_err-version_set_turn-in-Matching.result _ c.from_residual-in_err-version_set_turn-in-Matching.ensures.0;
-      limits = c.version_set_turn.ensures.limits;
-      refusal = IfErr-of c.from_residual-in_err-version_set_turn-in-Matching.result _ _ c.from_residual-in_err-version_set_turn-in-Matching.ensures.1 c.in_err-version_set_turn-in-Matching.ensures.refusal;
-    }

@@ -17,26 +17,6 @@ returns g c =
       refusal = tt;
     }
 
-pub returns-in_err-given_turns : goal.returns-in_err-given_turns
-returns-in_err-given_turns g c =
-    record {
-      is_true = c.given_turns.ensures.is_true;
-      rounds = IfOk-from_err c.from_residual.result _ c.from_residual.ensures.0;
-      between = IfOk-from_err c.from_residual.result _ c.from_residual.ensures.0;
-      limits = c.given_turns.ensures.limits;
-      refusal = IfErr-of c.from_residual.result _ _ c.from_residual.ensures.1 c.in_err-given_turns.ensures.refusal;
-    }
-
-pub returns-in_err-list_turns : goal.returns-in_err-list_turns
-returns-in_err-list_turns g c =
-    record {
-      is_true = c.list_turns.ensures.is_true;
-      rounds = IfOk-from_err c.from_residual-in_err-list_turns.result _ c.from_residual-in_err-list_turns.ensures.0;
-      between = IfOk-from_err c.from_residual-in_err-list_turns.result _ c.from_residual-in_err-list_turns.ensures.0;
-      limits = room_trans c.args.self.now c.given_turns.new.self c.list_turns.new.self c.given_turns.ensures.limits c.list_turns.ensures.limits;
-      refusal = IfErr-of c.from_residual-in_err-list_turns.result _ _ c.from_residual-in_err-list_turns.ensures.1 c.in_err-list_turns.ensures.refusal;
-    }
-
 pub given_turns-requires-clause-can_next : goal.given_turns-requires-clause-can_next
 given_turns-requires-clause-can_next g c = c.requires.can_next
 

@@ -42,17 +42,6 @@ loop-solvable-preserved g c =
           (c.in_ok-soft_turn.ensures.between root (map Solvable c.loop-solvable.yielded) (before.between root b));
     }
 
-pub returns-in_err-soft_turn : goal.returns-in_err-soft_turn
-returns-in_err-soft_turn g c =
-    record {
-      is_true = c.soft_turn.ensures.is_true;
-      rounds = IfOk-from_err c.from_residual.result _ c.from_residual.ensures.0;
-      still = IfOk-from_err c.from_residual.result _ c.from_residual.ensures.0;
-      between = IfOk-from_err c.from_residual.result _ c.from_residual.ensures.0;
-      limits = room_trans c.args.self.now c.loop-solvable.self c.soft_turn.new.self c.loop-solvable.invariant.room c.soft_turn.ensures.limits;
-      refusal = IfErr-of c.from_residual.result _ _ c.from_residual.ensures.1 c.in_err-soft_turn.ensures.refusal;
-    }
-
 pub loop-solvable-init : goal.loop-solvable-init
 loop-solvable-init g c = record {
   is_true = c.requires.is_true;

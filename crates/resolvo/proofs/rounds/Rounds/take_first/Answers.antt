@@ -81,14 +81,3 @@ returns g c =
       limits = c.loop-candidate.invariant.room;
       refusal = tt;
     }
-
-pub returns-in_err-turn : goal.returns-in_err-turn
-returns-in_err-turn g c =
-    record {
-      is_true = c.turn.ensures.is_true;
-      rounds = IfOk-from_err c.from_residual.result _ c.from_residual.ensures.0;
-      still = IfOk-from_err c.from_residual.result _ c.from_residual.ensures.0;
-      turned = IfOk-from_err c.from_residual.result _ c.from_residual.ensures.0;
-      limits = room_trans c.args.self.now c.loop-candidate.self c.turn.new.self c.loop-candidate.invariant.room c.turn.ensures.limits;
-      refusal = IfErr-of c.from_residual.result _ _ c.from_residual.ensures.1 c.in_err-turn.ensures.refusal;
-    }

@@ -104,42 +104,6 @@ returns-in_ok-is_chosen-in-None g c =
       refusal = tt;
     }
 
-pub returns-in_err-variable : goal.returns-in_err-variable
-returns-in_err-variable g c =
-    record {
-      is_true = c.requires.is_true;
-      rounds = IfOk-from_err c.from_residual.result _ c.from_residual.ensures.0;
-      still = IfOk-from_err c.from_residual.result _ c.from_residual.ensures.0;
-      turned = IfOk-from_err c.from_residual.result _ c.from_residual.ensures.0;
-      limits = record { notes = c.register.ensures.limits; clauses = refl; learnt = refl };
-      refusal = IfErr-of c.from_residual.result _ _ c.from_residual.ensures.1 (full_shortage (record c.args.self.now { encoding = c.register.new.self }) _ c.in_err-variable.ensures.refusal);
-    }
-
-pub returns-in_err-load : goal.returns-in_err-load
-returns-in_err-load g c =
-    record {
-      is_true = c.requires.is_true;
-      rounds = IfOk-from_err c.from_residual-in_err-load.result _ c.from_residual-in_err-load.ensures.0;
-      still = IfOk-from_err c.from_residual-in_err-load.result _ c.from_residual-in_err-load.ensures.0;
-      turned = IfOk-from_err c.from_residual-in_err-load.result _ c.from_residual-in_err-load.ensures.0;
-      limits = room_trans c.args.self.now (record c.args.self.now { encoding = c.register.new.self }) c.load.new.self
-          (record { notes = c.register.ensures.limits; clauses = refl; learnt = refl }) c.load.ensures.limits;
-      refusal = IfErr-of c.from_residual-in_err-load.result _ _ c.from_residual-in_err-load.ensures.1 (shortage_of_memory _ _ c.in_err-load.ensures.memory);
-    }
-
-pub returns-in_err-is_chosen-in-None : goal.returns-in_err-is_chosen-in-None
-returns-in_err-is_chosen-in-None g c =
-    record {
-      is_true = c.attempt.ensures.is_true;
-      rounds = IfOk-from_err c.from_residual-in_err-is_chosen-in-None.result _ c.from_residual-in_err-is_chosen-in-None.ensures.0;
-      still = IfOk-from_err c.from_residual-in_err-is_chosen-in-None.result _ c.from_residual-in_err-is_chosen-in-None.ensures.0;
-      turned = IfOk-from_err c.from_residual-in_err-is_chosen-in-None.result _ c.from_residual-in_err-is_chosen-in-None.ensures.0;
-      limits = room_trans c.args.self.now c.load.new.self c.attempt.new.self
-          (room_trans c.args.self.now (record c.args.self.now { encoding = c.register.new.self }) c.load.new.self
-          (record { notes = c.register.ensures.limits; clauses = refl; learnt = refl }) c.load.ensures.limits) c.attempt.ensures.limits;
-      refusal = IfErr-of c.from_residual-in_err-is_chosen-in-None.result _ _ c.from_residual-in_err-is_chosen-in-None.ensures.1 c.in_err-is_chosen-in-None.ensures.refusal;
-    }
-
 pub attempt-requires-clause-free : goal.attempt-requires-clause-free
 attempt-requires-clause-free g c = rw c.trail.ensures at (sym c.slot.ensures ∙ c.in-None.is)
 

@@ -105,39 +105,6 @@ returns g c =
       refusal = tt;
     }
 
-pub returns-in_err-candidates : goal.returns-in_err-candidates
-returns-in_err-candidates g c =
-    record {
-      is_true = c.requirement_candidates.ensures.is_true;
-      rounds = IfOk-from_err c.from_residual.result _ c.from_residual.ensures.0;
-      still = IfOk-from_err c.from_residual.result _ c.from_residual.ensures.0;
-      between = IfOk-from_err c.from_residual.result _ c.from_residual.ensures.0;
-      limits = room_same c.args.self.now;
-      refusal = IfErr-stop c.from_residual.result (g.D.DependencyProvider.may_cancel c.args.provider.now) _ _ c.from_residual.ensures.1 c.in_err-candidates.ensures.refusal;
-    }
-
-pub returns-in_err-ask : goal.returns-in_err-ask
-returns-in_err-ask g c =
-    record {
-      is_true = c.ask.ensures.is_true;
-      rounds = IfOk-from_err c.from_residual-in_err-ask.result _ c.from_residual-in_err-ask.ensures.0;
-      still = IfOk-from_err c.from_residual-in_err-ask.result _ c.from_residual-in_err-ask.ensures.0;
-      between = IfOk-from_err c.from_residual-in_err-ask.result _ c.from_residual-in_err-ask.ensures.0;
-      limits = c.ask.ensures.limits;
-      refusal = IfErr-of c.from_residual-in_err-ask.result _ _ c.from_residual-in_err-ask.ensures.1 c.in_err-ask.ensures.refusal;
-    }
-
-pub returns-in_err-take_first : goal.returns-in_err-take_first
-returns-in_err-take_first g c =
-    record {
-      is_true = c.take_first.ensures.is_true;
-      rounds = IfOk-from_err c.from_residual-in_err-take_first.result _ c.from_residual-in_err-take_first.ensures.0;
-      still = IfOk-from_err c.from_residual-in_err-take_first.result _ c.from_residual-in_err-take_first.ensures.0;
-      between = IfOk-from_err c.from_residual-in_err-take_first.result _ c.from_residual-in_err-take_first.ensures.0;
-      limits = room_trans c.args.self.now c.ask.new.self c.take_first.new.self c.ask.ensures.limits c.take_first.ensures.limits;
-      refusal = IfErr-of c.from_residual-in_err-take_first.result _ _ c.from_residual-in_err-take_first.ensures.1 c.in_err-take_first.ensures.refusal;
-    }
-
 pub take_first-requires-clause-still : goal.take_first-requires-clause-still
 take_first-requires-clause-still g c = c.in_ok-ask.ensures.still
 
