@@ -37,7 +37,7 @@ use Rattle.resolver_encoding.specs.Truth.{HasLawfulSolvables}
 use Rattle.resolver_encoding.proofs.Bridge.{before-back, chosen_once, finished_is_valid, true_before}
 use Rattle.resolver_encoding.proofs.PromiseLemmas.{finished_is_first}
 use Rattle.resolver_encoding.proofs.TrailLemmas.{same_before, same_origin}
-use Rattle.resolvo.specs.ClauseSearches.{IsConsistent, IsLoaded, KeepsTurn, SetsNone, StaysBookmarked, clause_count_of, held_of, kept_of, learnt_count_of}
+use Rattle.resolvo.specs.ClauseSearches.{IsConsistent, IsLoaded, KeepsTurn, SetsNone, StaysBookmarked, held_of, kept_of}
 use Rattle.resolvo.specs.ClauseSearches.{trail_of}
 use Rattle.resolvo.specs.RoundStates.{AreRounds, GoesOn, HasFollowed, IsAnswering, IsFollowing, IsSearchOf, IsStill, IsUpToDate, KeepsNear}
 use Rattle.resolvo.specs.RoundStates.{chosen_of, notes_of}

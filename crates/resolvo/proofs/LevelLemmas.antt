@@ -4,7 +4,7 @@ use Rattle.std.proofs.Common.{inr, refl, sym, ap, ◌∙◌, subst, ⊎_elim, ge
 use Rattle.std.specs.Prelude.{not}
 use Rattle.std.specs.List.{All, Any, Contains}
 use Rattle.std.specs.Option.{option_map_or}
-use Rattle.std.proofs.lemmas.Bool.{cases_Bool, both_ways, cases_eq, cases_lt}
+use Rattle.std.proofs.lemmas.Bool.{cases_Bool, both_ways, cases_lt}
 use Rattle.std.proofs.lemmas.List.Elements.{All-more, All-weaker}
 use Rattle.std.proofs.lemmas.Option.{same_Some}
 use Rattle.resolver_clause_store.specs.declared.Literal.{Literal}
@@ -16,10 +16,9 @@ use Rattle.resolver_clause_store.specs.Slots.{is_decided}
 use Rattle.resolver_clause_store.specs.TrailView.{slot_of, length_of, variable_at, place_of}
 use Rattle.resolver_clause_store.proofs.TrailLemmas.{value-false}
 use Rattle.resolver_clause_store.proofs.FormulaLemmas.{beq-false}
-use Rattle.resolver_clause_store.proofs.KeptLemmas.{slot_at}
 use Rattle.resolvo.specs.Propagation.{IsJustified}
 use Rattle.resolvo.specs.declared.learn.resolve.Resolvent.{Resolvent}
-use Rattle.resolvo.specs.Resolvents.{is_marked, MarksAlso, StandsAt, IsLevelled, IsLow, IsReason, IsSingle, IsAsserting, Negates, level_in}
+use Rattle.resolvo.specs.Resolvents.{is_marked, MarksAlso, StandsAt, IsLevelled, IsReason, IsSingle, IsAsserting, Negates, level_in}
 use Rattle.resolvo.proofs.MarkLemmas.{unmarked-set}
 use Rattle.resolvo.proofs.NegationLemmas.{negation}
 
@@ -355,82 +354,4 @@ asserting trail marks literals literal level backtrack_level variable single neg
           (λ (there : Any (λ (l : Literal). (l.variable ≢ variable) × (level_in trail l.variable ≡ backtrack_level)) literals). inr
           (there.0, there.1, there.2, there.3, (λ e. there.4.0 (ap (λ (x : Literal). x.variable) e ∙ var-is), there.4.1)))
           reached;
-    }
-
--- a variable other than the first one of the highest level is resolved away with a clause whose other literals are low
-pub levelled-implied : (trail : Trail) (old new : Resolvent) (mid : List Bool) (variable : ℕ) (clause : List Literal) →
-    IsLevelled trail old (length_of trail) → variable ≢ variable_at trail old.lowest → MarksAlso old.marks.items mid clause →
-    new.marks.items ≡ set mid variable false → new.level ≡ old.level → new.lowest ≡ old.lowest →
-    All (IsLow trail variable old.level old.lowest) clause → IsLevelled trail new (length_of trail)
-levelled-implied trail old new mid variable clause levelled first so marks level lowest low =
-    let from : (u : ℕ) → is_marked new.marks.items u ≡ true → (u ≢ variable) × (is_marked mid u ≡ true) = λ u m.
-    let now : is_marked (set mid variable false) u ≡ true = ap (λ xs. is_marked xs u) (sym marks) ∙ m in
-    let differ : u ≢ variable = λ e. both_ways _ (unmarked-set mid variable) (ap (λ k. is_marked (set mid variable false) k) (sym e) ∙ now) in
-    (differ, sym (get_or-set_other mid variable u false false differ) ∙ now) in
-    let bounds : (u : ℕ) (t : Slot) → u ≢ variable → slot_of trail u ≡ Some t →
-    All (λ (l : Literal). l.variable ≡ u → (t.level ≤ old.level) × (t.level ≡ old.level → old.lowest ≤ t.place)) clause =
-    λ u t differ at k d below. λ e. low k d below (λ q. differ (sym e ∙ q)) t (ap (λ n. slot_of trail n) e ∙ at) in
-    record {
-      at_most = record {
-        top = λ u t m at. ⊎_elim
-            (λ (yes : is_marked old.marks.items u ≡ true). omega (arith, level, levelled.at_most.top u t yes at))
-            (λ (no : is_marked old.marks.items u ≡ false). ⊎_elim
-            (λ (more : new.level < t.level). absurd (both_ways _ (so.only u no (λ k d below. λ e.
-            omega (arith, more, level, (bounds u t (from u m).0 at k d below e).0))) (from u m).1))
-            (λ (less : t.level ≤ new.level). less)
-            (cases_lt new.level t.level))
-            (cases_Bool (is_marked old.marks.items u));
-        least = λ u t m at same. ⊎_elim
-            (λ (yes : is_marked old.marks.items u ≡ true). omega (arith, lowest, levelled.at_most.least u t yes at (same ∙ level)))
-            (λ (no : is_marked old.marks.items u ≡ false). ⊎_elim
-            (λ (less : t.place < new.lowest). absurd (both_ways _ (so.only u no (λ k d below. λ e.
-            omega (arith, less, lowest, (bounds u t (from u m).0 at k d below e).1 (same ∙ level)))) (from u m).1))
-            (λ (more : new.lowest ≤ t.place). more)
-            (cases_lt t.place new.lowest))
-            (cases_Bool (is_marked old.marks.items u));
-      };
-      before = record { before = λ v s m at. (trail.listed v s at).0 };
-      mark = λ some.
-          let h = levelled.mark (omega (arith, some, level)) in
-          let there : variable_at trail old.lowest ≡ h.variable =
-          ap (λ n. variable_at trail n) (sym h.stands.place_is) ∙ (trail.listed h.variable h.stands.slot h.stands.is).1 in
-          let differ : h.variable ≢ variable = λ e. first (sym e ∙ sym there) in
-          record {
-            variable = h.variable;
-            marked = ap (λ xs. is_marked xs h.variable) marks ∙ get_or-set_other mid variable h.variable false false differ ∙ so.kept h.variable h.marked;
-            stands = record {
-              slot = h.stands.slot;
-              is = h.stands.is;
-              level_is = h.stands.level_is ∙ sym level;
-              place_is = h.stands.place_is ∙ sym lowest;
-            };
-          };
-    }
-
--- one variable of the highest level, at the lowest place
-pub levelled-single : (trail : Trail) (it : Resolvent) → it.lowest < length_of trail →
-    IsSingle trail it.marks.items it.level (variable_at trail it.lowest) → IsLevelled trail it (length_of trail)
-levelled-single trail it inside single =
-    let top = variable_at trail it.lowest in
-    let at_top = slot_at trail it.lowest inside in
-    let place : single.slot.place ≡ it.lowest = ap (λ (s : Slot). s.place) (same_Some _ _ (sym single.is ∙ at_top.1)) ∙ at_top.2 in
-    record {
-      at_most = record {
-        top = λ u t m at. ⊎_elim
-            (λ (e : u ≡ top). let same : t ≡ single.slot = same_Some _ _ (sym at ∙ ap (λ n. slot_of trail n) e ∙ single.is) in
-            omega (arith, ap (λ (s : Slot). s.level) same, single.level_is))
-            (λ (ne : u ≢ top). omega (arith, single.others u t m at ne))
-            (cases_eq u top);
-        least = λ u t m at level. ⊎_elim
-            (λ (e : u ≡ top). let same : t ≡ single.slot = same_Some _ _ (sym at ∙ ap (λ n. slot_of trail n) e ∙ single.is) in
-            omega (arith, ap (λ (s : Slot). s.place) same, place))
-            (λ (ne : u ≢ top). absurd (omega (arith, level, single.others u t m at ne)))
-            (cases_eq u top);
-      };
-      before = record { before = λ v s m at. (trail.listed v s at).0 };
-      mark = λ some. record {
-        variable = top;
-        marked = single.marked;
-        stands = record { slot = single.slot; is = single.is; level_is = single.level_is; place_is = place };
-      };
     }

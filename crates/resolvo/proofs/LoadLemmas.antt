@@ -19,7 +19,7 @@ use Rattle.resolver_clause_store.specs.Formula.{AreBelow, IsBelow, clause_at}
 use Rattle.resolver_clause_store.specs.Outcomes.{IsChosen, IsFinished, IsMet, IsPropagated}
 use Rattle.resolver_clause_store.specs.TrailView.{IsGrown, IsUndone, KeepsPlaces, length_of, slot_of, variable_count}
 use Rattle.resolver_clause_store.proofs.FormulaLemmas.{clause_at-last, clause_at-push}
-use Rattle.resolver_clause_store.proofs.KeptLemmas.{keeps_all, keeps_grown, keeps_through, keeps_trans, keeps_undone}
+use Rattle.resolver_clause_store.proofs.KeptLemmas.{keeps_grown, keeps_through, keeps_trans, keeps_undone}
 use Rattle.resolver_clause_store.proofs.TrailLemmas.{Keeps, forcing-kept}
 use Rattle.resolvo.specs.Sources.{Source}
 use Rattle.resolvo.specs.Sources.{given_as}
@@ -44,12 +44,6 @@ use Rattle.resolvo.proofs.SourceLemmas.{given_at-cases, given_at-last, given_at-
 -- a trail that only grows keeps its first entries
 pub first-after : (old new : Trail) (count : ℕ) → KeepsPlaces old new (length_of old) → KeepsFirst old count new count
 first-after old new count keeps = λ base k. keeps_through base old new count (length_of old) k keeps k.are
-
-pub keeps_extended : (base old new : Trail) (count : ℕ) → KeepsPlaces base old count → Extends old new → KeepsPlaces base new count
-keeps_extended base old new count k extends = keeps_through base old new count (length_of old) k (keeps_all old new (record { kept = extends.kept })) k.are
-
-pub keeps_more : (base old new : Trail) (count : ℕ) → KeepsPlaces base old count → KeepsPlaces old new (length_of old) → KeepsPlaces base new count
-keeps_more base old new count k l = keeps_through base old new count (length_of old) k l k.are
 
 -- a trail that was undone keeps its first entries that are left
 pub first-undone : (old new : Trail) (count level : ℕ) → IsUndone old new level → KeepsFirst old count new (min count (length_of new))

@@ -1,10 +1,6 @@
 -- The rules that are left after new searches over them alone.
-use Rattle.std.proofs.lemmas.List.{take-append-drop}
-use Rattle.std.proofs.Common.{◌≡◌, ◌<◌, ◌++◌, drop, take, ℕ, List, [], ◌∷◌, Bool, true, false, All, length, replicate, ap, sym, subst, ◌∙◌}
-use Rattle.std.specs.List.{AllZip, slice_index_or}
-use Rattle.std.specs.List.Sorted.{IsPermutation}
-use Rattle.std.proofs.lemmas.List.Sorted.{All-permutation, IsPermutation-append_comm, IsPermutation-sym}
-use Rattle.resolver_clause_store.specs.Formula.{IsBelow, clause_true}
+use Rattle.std.proofs.Common.{◌≡◌, List, [], ◌∷◌, Bool, true, false, All, length, replicate, ap, sym, subst, ◌∙◌}
+use Rattle.std.specs.List.{AllZip}
 use Rattle.resolver_clause_store.specs.Lists.{IsCut, cut_none, cut_left, cut_right}
 use Rattle.resolver_clause_store.specs.Statements.{StatesTheSame}
 use Rattle.resolver_clause_store.specs.Rules.{IsRefuted}
@@ -17,8 +13,6 @@ use Rattle.resolvo.proofs.MinimalLemmas.{all_marked, cut_again, cut_zip}
 use Rattle.resolvo.proofs.SameLemmas.{AllTrue-same, IsRefuted-same}
 use Rattle.resolvo.specs.Explanations.{Explains}
 use Rattle.resolvo.specs.Minimal.{CopiesPart, marked}
-use Rattle.resolvo.specs.RuleClauses.{DecideRules, IsGuarded}
-use Rattle.resolvo.specs.declared.minimal.rule_clauses.RuleClause.{RuleClause}
 
 -- the marked elements are a part, in order
 marked_cut : {X : Type 0} (marks : List Bool) (xs : List X) → (dropped : List X) × IsCut xs (marked marks xs) dropped

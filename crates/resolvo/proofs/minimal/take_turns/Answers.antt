@@ -1,7 +1,5 @@
 use Rattle.std.proofs.Common.{arith, refl, ap, ◌+◌, ◌∙◌, length, false}
 use Rattle.std.proofs.lemmas.List.{length-replicate}
-use Rattle.std.proofs.lemmas.Result.{IfOk-from_err}
-use Rattle.resolver_encoding.proofs.RefusalLemmas.{IfErr-of}
 use Rattle.resolvo.proofs.MinimalLemmas.{underway_done}
 use Rattle.resolvo.proofs.RotationLemmas.{needed_none}
 use Rattle.resolvo.proofs.minimal.take_turns.Goals as goal

@@ -1,9 +1,7 @@
-use Rattle.std.proofs.Common.{ap, arith, length, sym, ◌∙◌, refl}
+use Rattle.std.proofs.Common.{ap, arith, length, sym, ◌∙◌}
 use Rattle.resolvo.proofs.LoadLemmas.{consistent-grown, first-grown, loaded-trail}
 use Rattle.resolvo.proofs.TurnLemmas.{turn-grown, turn-trans}
 use Rattle.resolvo.proofs.WatchedLemmas.{in_lists-same}
-use Rattle.std.proofs.lemmas.Result.{IfOk-from_err}
-use Rattle.resolver_encoding.proofs.RefusalLemmas.{IfErr-of}
 use Rattle.resolvo.proofs.clause_search.ClauseSearch.load.Goals as goal
 
 pub load_clauses-requires-clause-consistent : goal.load_clauses-requires-clause-consistent

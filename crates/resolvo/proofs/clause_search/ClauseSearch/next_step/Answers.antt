@@ -1,6 +1,4 @@
-use Rattle.std.proofs.Common.{List, ap, arith, refl, sym, subst, ℕ, ◌∙◌, ◌≡◌, ◌+◌, ◌≤◌}
-use Rattle.std.proofs.lemmas.Result.{IfOk-from_err}
-use Rattle.resolver_clause_store.specs.Formula.{AreBelow}
+use Rattle.std.proofs.Common.{ap, arith, refl, ◌≡◌}
 use Rattle.resolver_clause_store.specs.TrailView.{variable_count}
 use Rattle.resolver_clause_store.specs.Queues.{IsQueued}
 use Rattle.resolver_clause_store.specs.WatchesView.{pairs_of}

@@ -1,7 +1,4 @@
 use Rattle.resolvo.proofs.LoadLemmas.{finished_for, problem-trans}
-use Rattle.std.proofs.Common.{◌∙◌}
-use Rattle.resolver_encoding.proofs.RefusalLemmas.{shortage_at_limit, IfErr-of, IfErr-stop}
-use Rattle.std.proofs.lemmas.Result.{IfOk-from_err}
 use Rattle.resolvo.proofs.clause_search.ClauseSearch.run.Goals as goal
 
 pub returns-in-None : goal.returns-in-None

@@ -1,11 +1,8 @@
-use Rattle.std.specs.Prelude.{◌+◌, ◌<◌, ℕ, List, length}
+use Rattle.std.specs.Prelude.{◌+◌, List}
 use Rattle.std.proofs.Common.{ap, ◌∙◌, arith, refl, subst}
 use Rattle.std.proofs.lemmas.List.{get_or_default}
-use Rattle.std.proofs.lemmas.List.Elements.{All-contains}
-use Rattle.std.proofs.lemmas.Result.{IfOk-from_err}
 use Rattle.resolver_clause_store.specs.declared.Literal.{Literal}
 use Rattle.resolver_clause_store.specs.declared.Reason.TheVariants.{Decided}
-use Rattle.resolver_clause_store.specs.declared.StoredRequirement.{StoredRequirement}
 use Rattle.resolver_clause_store.specs.Formula.{clause_at}
 use Rattle.resolver_clause_store.specs.TrailView.{Gains, level_of, literal_value}
 use Rattle.resolver_clause_store.proofs.KeptLemmas.{keeps_all}

@@ -2,8 +2,6 @@ use Rattle.resolvo.proofs.MinimalLemmas.{minimal_explains, minimal_irreducible, 
 use Rattle.resolvo.specs.Conflicts.{rules_in}
 use Rattle.resolvo.specs.Minimal.{marked}
 use Rattle.std.proofs.Common.{ap, length, sym, ◌∙◌}
-use Rattle.std.proofs.lemmas.Result.{IfOk-from_err}
-use Rattle.resolver_encoding.proofs.RefusalLemmas.{IfErr-of}
 use Rattle.resolvo.proofs.conflict.Conflict.minimal.Goals as goal
 
 pub returns : goal.returns

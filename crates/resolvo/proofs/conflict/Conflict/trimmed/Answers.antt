@@ -1,8 +1,6 @@
 use Rattle.resolvo.proofs.TrimmedLemmas.{trimmed_explains}
 use Rattle.resolvo.specs.Conflicts.{rules_in}
 use Rattle.std.proofs.Common.{ap, length, sym, ◌∙◌}
-use Rattle.std.proofs.lemmas.Result.{IfOk-from_err}
-use Rattle.resolver_encoding.proofs.RefusalLemmas.{IfErr-of}
 use Rattle.resolvo.proofs.conflict.Conflict.trimmed.Goals as goal
 
 pub returns : goal.returns

@@ -1,5 +1,3 @@
-use Rattle.std.proofs.lemmas.Result.{IfOk-from_err}
-use Rattle.resolver_encoding.proofs.RefusalLemmas.{IfErr-of}
 use Rattle.resolvo.proofs.minimal.trimming.trimmed_marks.Goals as goal
 
 pub returns : goal.returns

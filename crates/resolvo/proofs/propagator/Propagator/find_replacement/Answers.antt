@@ -5,9 +5,6 @@ use Rattle.resolver_clause_store.specs.declared.Literal.{Literal}
 use Rattle.resolvo.proofs.VisitLemmas.{moves, own-other, extends-same}
 use Rattle.resolvo.proofs.ReplacementLemmas.{replaces-at}
 use Rattle.resolvo.proofs.TwoLiteralLemmas.{false-now, own-false}
-use Rattle.resolver_clause_store.proofs.ResultLemmas.{refused-any}
-use Rattle.resolvo.proofs.WatchedLemmas.{owned-of, owned-same}
-use Rattle.std.proofs.lemmas.Result.{IfOk-from_err}
 use Rattle.resolvo.proofs.propagator.Propagator.find_replacement.Goals as goal
 
 pub returns-in_ok-move_watch-in-Some : goal.returns-in_ok-move_watch-in-Some

@@ -1,11 +1,9 @@
 use Rattle.std.proofs.Common.{arith}
 use Rattle.resolver_clause_store.proofs.TrailLemmas.{value-none}
 use Rattle.resolvo.proofs.AttachingLemmas.{gained-satisfied}
-use Rattle.resolvo.proofs.JustifiedLemmas.{justified-gains, justified-same}
+use Rattle.resolvo.proofs.JustifiedLemmas.{justified-gains}
 use Rattle.resolvo.proofs.VisitLemmas.{below-contains, forces, stands-placed}
 use Rattle.resolvo.proofs.TwoLiteralLemmas.{binary-unit}
-use Rattle.resolver_clause_store.proofs.ResultLemmas.{refused-any}
-use Rattle.resolvo.proofs.WatchedLemmas.{owned-of}
 use Rattle.resolvo.proofs.propagator.Propagator.force_binary.Goals as goal
 
 pub force-requires-clause-inside : goal.force-requires-clause-inside

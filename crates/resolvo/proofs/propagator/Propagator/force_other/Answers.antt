@@ -1,10 +1,8 @@
 use Rattle.std.proofs.lemmas.Grind.{common_steps}
 use Rattle.std.proofs.Common.{arith, sym}
 use Rattle.resolver_clause_store.proofs.TrailLemmas.{value-none}
-use Rattle.resolvo.proofs.JustifiedLemmas.{extends-gains, justified-gains, justified-same}
+use Rattle.resolvo.proofs.JustifiedLemmas.{extends-gains, justified-gains}
 use Rattle.resolvo.proofs.VisitLemmas.{below-contains, forces, own-other}
-use Rattle.resolver_clause_store.proofs.ResultLemmas.{refused-any}
-use Rattle.resolvo.proofs.WatchedLemmas.{owned-of}
 use Rattle.resolvo.proofs.propagator.Propagator.force_other.Goals as goal
 
 pub value-requires : goal.value-requires

@@ -1,9 +1,4 @@
-use Rattle.std.proofs.Common.{ap}
-use Rattle.resolver_clause_store.specs.declared.Watches.{Watches}
-use Rattle.resolver_clause_store.specs.WatchesView.{pairs_of}
 use Rattle.resolvo.proofs.VisitLemmas.{passes}
-use Rattle.resolver_clause_store.proofs.ResultLemmas.{refused-any}
-use Rattle.resolvo.proofs.WatchedLemmas.{owned-of, owned-same}
 use Rattle.resolvo.proofs.propagator.Propagator.pass_by.Goals as goal
 
 pub returns-clause-outcome : goal.returns-clause-outcome

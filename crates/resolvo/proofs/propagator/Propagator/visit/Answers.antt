@@ -1,8 +1,6 @@
 use Rattle.std.proofs.Common.{arith, ◌+◌, ◌∙◌, ap, length, refl}
 use Rattle.resolvo.proofs.VisitLemmas.{blockers-below, brought, visited, extends-same, extends-trans}
 use Rattle.resolver_clause_store.proofs.WatchListLemmas.{watching-stands}
-use Rattle.resolver_clause_store.proofs.ResultLemmas.{refused-any}
-use Rattle.std.proofs.lemmas.Result.{IfOk-from_err}
 use Rattle.resolvo.proofs.propagator.Propagator.visit.Goals as goal
 
 pub watchers-init : goal.watchers-init

@@ -1,7 +1,5 @@
 use Rattle.std.proofs.Common.{arith, refl}
 use Rattle.resolvo.proofs.VisitLemmas.{below-contains, own-other, paired, extends-same}
-use Rattle.resolver_clause_store.proofs.ResultLemmas.{refused-any}
-use Rattle.std.proofs.lemmas.Result.{IfOk-from_err}
 use Rattle.resolvo.proofs.propagator.Propagator.visit_pair.Goals as goal
 
 pub is_true-requires : goal.is_true-requires

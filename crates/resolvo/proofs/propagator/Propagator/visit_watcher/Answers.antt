@@ -1,8 +1,6 @@
 use Rattle.std.proofs.Common.{arith, sym, ◌∙◌, refl}
 use Rattle.resolver_clause_store.proofs.WatchListLemmas.{fit-at}
 use Rattle.resolvo.proofs.VisitLemmas.{below-contains, makes-true, stands-placed, tested-true, extends-same}
-use Rattle.resolver_clause_store.proofs.ResultLemmas.{refused-any}
-use Rattle.std.proofs.lemmas.Result.{IfOk-from_err}
 use Rattle.resolvo.proofs.propagator.Propagator.visit_watcher.Goals as goal
 
 pub value-value-requires : goal.value-value-requires

@@ -1,8 +1,6 @@
 use Rattle.std.proofs.Common.{arith, ◌∙◌}
 use Rattle.resolvo.proofs.PropagatorLemmas.{all-settled}
 use Rattle.resolvo.proofs.VisitLemmas.{extends-trans}
-use Rattle.resolver_clause_store.proofs.ResultLemmas.{refused-any}
-use Rattle.std.proofs.lemmas.Result.{IfOk-from_err}
 use Rattle.resolvo.proofs.propagator.visiting.propagate.Goals as goal
 
 pub returns : goal.returns

@@ -1,8 +1,6 @@
 use Rattle.resolvo.proofs.RoundLemmas.{room_trans, room_same}
 use Rattle.resolvo.proofs.GoingLemmas.{goes_trans, goes_begin}
 use Rattle.std.proofs.Common.{arith}
-use Rattle.std.proofs.lemmas.Result.{IfOk-from_err}
-use Rattle.resolver_encoding.proofs.RefusalLemmas.{IfErr-of}
 use Rattle.resolvo.proofs.rounds.Rounds.all_rounds.Goals as goal
 
 pub returns-in-Some : goal.returns-in-Some

@@ -5,9 +5,6 @@ use Rattle.resolver_encoding.specs.Turns.{AsksOnly}
 use Rattle.resolver_encoding.specs.declared.encoding.Encoding.{Encoding}
 use Rattle.resolvo.specs.RoundStates.{notes_of}
 use Rattle.resolvo.proofs.SoftLemmas.{asking_adds, rounds_added, standing_asked, standing_loaded, still_added}
-use Rattle.std.proofs.lemmas.Result.{IfOk-from_err}
-use Rattle.resolver_encoding.proofs.RefusalLemmas.{IfErr-of, shortage_of_memory}
-use Rattle.resolvo.proofs.StuckLemmas.{full_stop}
 use Rattle.resolvo.proofs.RoundLemmas.{room_trans}
 use Rattle.resolvo.proofs.rounds.Rounds.ask.Goals as goal
 

@@ -1,8 +1,5 @@
 use Rattle.std.proofs.Common.{[], List, refl, subst, sym, ◌∙◌}
 use Rattle.resolvo.proofs.RoundLemmas.{begun}
-use Rattle.std.proofs.lemmas.Result.{IfOk-from_err}
-use Rattle.resolver_encoding.proofs.RefusalLemmas.{IfErr-of}
-use Rattle.resolvo.proofs.StuckLemmas.{full_stop}
 use Rattle.resolver_encoding.specs.SoFar.{IsReadSoFar}
 use Rattle.resolver_encoding.specs.Notes.{notes_in}
 use Rattle.resolvo.proofs.rounds.Rounds.begin.Goals as goal

@@ -1,12 +1,10 @@
-use Rattle.std.proofs.Common.{[], arith, refl}
+use Rattle.std.proofs.Common.{[], arith}
 use Rattle.resolver_clause_store.specs.Outcomes.{IsCore}
 use Rattle.resolver_clause_store.specs.Universe.{Demands}
 use Rattle.resolvo.specs.ClauseSearches.{IsRefused, base_of, trail_of}
 use Rattle.resolvo.specs.RoundStates.{IsAnswering, IsFound, notes_of}
 use Rattle.resolvo.proofs.SoftLemmas.{between_begun, between_held, rounds_held, still_held}
 use Rattle.resolvo.proofs.RoundLemmas.{room_trans}
-use Rattle.std.proofs.lemmas.Result.{IfOk-from_err}
-use Rattle.resolver_encoding.proofs.RefusalLemmas.{IfErr-of}
 use Rattle.resolvo.proofs.rounds.Rounds.find.Goals as goal
 
 pub soft_turns-requires-clause-rounds : goal.soft_turns-requires-clause-rounds

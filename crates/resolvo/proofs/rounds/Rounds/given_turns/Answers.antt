@@ -1,7 +1,5 @@
 use Rattle.std.proofs.Common.{Option, subst, sym}
 use Rattle.resolvo.specs.Problems.{AreItems}
-use Rattle.std.proofs.lemmas.Result.{IfOk-from_err}
-use Rattle.resolver_encoding.proofs.RefusalLemmas.{IfErr-of}
 use Rattle.resolvo.proofs.rounds.Rounds.given_turns.Goals as goal
 
 pub returns-in_ok-solvable_turns-in-Some : goal.returns-in_ok-solvable_turns-in-Some

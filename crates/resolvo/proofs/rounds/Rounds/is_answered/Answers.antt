@@ -3,8 +3,6 @@ use Rattle.std.proofs.lemmas.Bool.{false≢true}
 use Rattle.resolvo.specs.RoundStates.{IsFound}
 use Rattle.resolvo.proofs.RefusingLemmas.{unanswered_core, unanswered_refused}
 use Rattle.resolvo.proofs.rounds.Rounds.is_answered.Goals.{in-Answer, in-Contradiction, in-Refused}
-use Rattle.std.proofs.lemmas.Result.{IfOk-from_err}
-use Rattle.resolver_encoding.proofs.RefusalLemmas.{IfErr-of}
 use Rattle.resolvo.proofs.rounds.Rounds.is_answered.Goals as goal
 
 pub returns-clause-unanswered : goal.returns-clause-unanswered

@@ -3,8 +3,6 @@ use Rattle.std.proofs.lemmas.List.{append_assoc, take_all, take_more}
 use Rattle.resolver_clause_store.specs.declared.SoftRequirement.{SoftRequirement}
 use Rattle.resolvo.specs.RoundStates.{IsBetween}
 use Rattle.resolvo.proofs.RoundLemmas.{room_same, room_trans}
-use Rattle.std.proofs.lemmas.Result.{IfOk-from_err}
-use Rattle.resolver_encoding.proofs.RefusalLemmas.{IfErr-of}
 use Rattle.resolvo.proofs.rounds.Rounds.list_turns.Goals as goal
 
 pub loop-requirement-init : goal.loop-requirement-init

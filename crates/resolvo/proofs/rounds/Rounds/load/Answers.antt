@@ -4,8 +4,6 @@ use Rattle.resolvo.specs.ClauseSearches.{IsLoaded, trail_of}
 use Rattle.resolvo.specs.RoundStates.{chosen_of, notes_of}
 use Rattle.resolvo.proofs.RoundLemmas.{given_below, given_inside, loaded_all, rounds_owned, searched, still_owned}
 use Rattle.resolvo.proofs.GoingLemmas.{still_loaded}
-use Rattle.std.proofs.lemmas.Result.{IfOk-from_err}
-use Rattle.resolver_encoding.proofs.RefusalLemmas.{IfErr-of}
 use Rattle.resolvo.proofs.rounds.Rounds.load.Goals as goal
 
 pub load-requires-clause-below : goal.load-requires-clause-below

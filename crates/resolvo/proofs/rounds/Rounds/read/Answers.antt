@@ -7,9 +7,6 @@ use Rattle.resolvo.specs.RoundStates.{notes_of}
 use Rattle.resolvo.proofs.RoundLemmas.{chosen_known, read_first, read_more, reading_first}
 use Rattle.resolvo.proofs.GoingLemmas.{drawn_or_assumed, goes_read}
 use Rattle.resolver_encoding.proofs.ReachLemmas.{positives_seen}
-use Rattle.std.proofs.lemmas.Result.{IfOk-from_err}
-use Rattle.resolver_encoding.proofs.RefusalLemmas.{IfErr-of, shortage_of_memory}
-use Rattle.resolvo.proofs.StuckLemmas.{full_stop}
 use Rattle.resolver_encoding.specs.SoFar.{IsProgress}
 use Rattle.resolvo.proofs.rounds.Rounds.read.Goals as goal
 

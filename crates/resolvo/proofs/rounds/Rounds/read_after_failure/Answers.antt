@@ -5,8 +5,6 @@ use Rattle.resolver_encoding.specs.SoFar.{IsProgress}
 use Rattle.resolvo.specs.RoundStates.{notes_of}
 use Rattle.resolvo.proofs.GoingLemmas.{goes_searched, goes_trans}
 use Rattle.resolvo.proofs.RoundLemmas.{room_trans}
-use Rattle.std.proofs.lemmas.Result.{IfOk-from_err}
-use Rattle.resolver_encoding.proofs.RefusalLemmas.{IfErr-of}
 use Rattle.resolvo.proofs.rounds.Rounds.read_after_failure.Goals as goal
 
 pub returns : goal.returns

@@ -1,6 +1,5 @@
 use Rattle.resolver_encoding.specs.Trails.{solvables_before}
 use Rattle.std.proofs.Common.{ap, arith, false, refl, subst, sym, ◌≡◌, ◌∙◌, ◌+◌, ◌-◌, ℕ}
-use Rattle.std.specs.Prelude.{length}
 use Rattle.resolver_clause_store.specs.TrailView.{Gains, IsCut, length_of, level_of, slot_of}
 use Rattle.resolver_clause_store.specs.declared.Reason.TheVariants.{Assumed}
 use Rattle.resolver_clause_store.specs.declared.Trail.{Trail}
@@ -11,9 +10,6 @@ use Rattle.resolvo.specs.ClauseSearches.{trail_of}
 use Rattle.resolvo.specs.RoundStates.{HasAssumed, notes_of}
 use Rattle.resolvo.proofs.SoftLemmas.{assumed_inside, ended_adds, refused_within, rounds_added, rounds_followed, still_assumed}
 use Rattle.resolvo.proofs.RoundLemmas.{room_trans}
-use Rattle.std.proofs.lemmas.Result.{IfOk-from_err}
-use Rattle.resolver_encoding.proofs.RefusalLemmas.{IfErr-of, shortage_of_memory}
-use Rattle.resolvo.proofs.StuckLemmas.{full_stop}
 use Rattle.resolvo.proofs.rounds.Rounds.refuse.Goals as goal
 
 pub load-requires : goal.load-requires

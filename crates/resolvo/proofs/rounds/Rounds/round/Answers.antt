@@ -3,8 +3,6 @@ use Rattle.resolver_encoding.specs.SoFar.{IsProgress}
 use Rattle.resolvo.specs.RoundStates.{notes_of}
 use Rattle.resolvo.proofs.GoingLemmas.{goes_trans}
 use Rattle.resolvo.proofs.RoundLemmas.{room_trans, round_later}
-use Rattle.std.proofs.lemmas.Result.{IfOk-from_err}
-use Rattle.resolver_encoding.proofs.RefusalLemmas.{IfErr-of}
 use Rattle.resolvo.proofs.rounds.Rounds.round.Goals as goal
 
 pub returns-in_ok-round-in-Nothing : goal.returns-in_ok-round-in-Nothing

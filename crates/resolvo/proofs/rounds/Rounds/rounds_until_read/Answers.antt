@@ -2,8 +2,6 @@ use Rattle.std.proofs.Common.{◌∙◌, refl}
 use Rattle.resolvo.specs.RoundStates.{IsRound}
 use Rattle.resolvo.proofs.RoundLemmas.{room_trans, room_same}
 use Rattle.resolvo.proofs.GoingLemmas.{goes_trans, goes_begin}
-use Rattle.std.proofs.lemmas.Result.{IfOk-from_err}
-use Rattle.resolver_encoding.proofs.RefusalLemmas.{IfErr-of}
 use Rattle.resolvo.proofs.rounds.Rounds.rounds_until_read.Goals as goal
 
 pub returns-in-Last : goal.returns-in-Last

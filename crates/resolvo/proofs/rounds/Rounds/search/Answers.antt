@@ -2,9 +2,6 @@ use Rattle.std.proofs.Common.{◌∙◌}
 use Rattle.resolvo.specs.RoundStates.{notes_of}
 use Rattle.resolvo.proofs.RoundLemmas.{searched}
 use Rattle.resolvo.proofs.TurnLemmas.{turn-trans}
-use Rattle.std.proofs.lemmas.Result.{IfOk-from_err}
-use Rattle.resolver_encoding.proofs.RefusalLemmas.{IfErr-of, shortage_of_memory}
-use Rattle.resolvo.proofs.StuckLemmas.{searched_stop}
 use Rattle.resolvo.proofs.rounds.Rounds.search.Goals as goal
 
 pub returns : goal.returns

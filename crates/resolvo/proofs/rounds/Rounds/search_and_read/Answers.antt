@@ -1,5 +1,4 @@
-use Rattle.std.proofs.Common.{List, ap, length, refl, ◌≡◌}
-use Rattle.resolver_encoding.specs.Encodings.{Notes}
+use Rattle.std.proofs.Common.{List, refl, ◌≡◌}
 use Rattle.resolver_clause_store.specs.Outcomes.{IsFinished}
 use Rattle.resolver_clause_store.specs.declared.RequirementClause.{RequirementClause}
 use Rattle.resolver_encoding.specs.SoFar.{IsProgress}
@@ -8,8 +7,6 @@ use Rattle.resolvo.specs.RoundStates.{notes_of}
 use Rattle.resolvo.proofs.GoingLemmas.{answering, goes_searched, goes_trans}
 use Rattle.resolver_encoding.proofs.SoFarLemmas.{lawful_solvables}
 use Rattle.resolvo.proofs.RoundLemmas.{room_trans}
-use Rattle.std.proofs.lemmas.Result.{IfOk-from_err}
-use Rattle.resolver_encoding.proofs.RefusalLemmas.{IfErr-of}
 use Rattle.resolvo.proofs.rounds.Rounds.search_and_read.Goals as goal
 
 pub returns-in-Contradiction : goal.returns-in-Contradiction

@@ -6,8 +6,6 @@ use Rattle.resolver_clause_store.specs.declared.SoftRequirement.TheVariants.{Sol
 use Rattle.resolvo.specs.RoundStates.{IsBetween}
 use Rattle.resolvo.proofs.SoftTurnLemmas.{between_solvable, gathered_last, standing_for}
 use Rattle.resolver_clause_store.proofs.ListLemmas.{Contains-here as here}
-use Rattle.std.proofs.lemmas.Result.{IfOk-from_err}
-use Rattle.resolver_encoding.proofs.RefusalLemmas.{IfErr-of}
 use Rattle.resolvo.proofs.rounds.Rounds.soft_turn.Goals as goal
 
 pub returns-in_ok-turn-in-Solvable : goal.returns-in_ok-turn-in-Solvable

@@ -1,8 +1,6 @@
 use Rattle.std.specs.Prelude.{map}
 use Rattle.resolver_clause_store.specs.declared.SoftRequirement.TheVariants.{Solvable}
 use Rattle.resolvo.proofs.RoundLemmas.{room_trans}
-use Rattle.std.proofs.lemmas.Result.{IfOk-from_err}
-use Rattle.resolver_encoding.proofs.RefusalLemmas.{IfErr-of}
 use Rattle.resolvo.proofs.rounds.Rounds.soft_turns.Goals as goal
 
 pub returns : goal.returns

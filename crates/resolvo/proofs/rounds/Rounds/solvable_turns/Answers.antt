@@ -5,8 +5,6 @@ use Rattle.resolver_clause_store.specs.declared.SoftRequirement.{SoftRequirement
 use Rattle.resolver_clause_store.specs.declared.SoftRequirement.TheVariants.{Solvable}
 use Rattle.resolvo.specs.RoundStates.{IsBetween}
 use Rattle.resolvo.proofs.RoundLemmas.{room_same, room_trans}
-use Rattle.std.proofs.lemmas.Result.{IfOk-from_err}
-use Rattle.resolver_encoding.proofs.RefusalLemmas.{IfErr-of}
 use Rattle.resolvo.proofs.SoftTurnLemmas.{gives_all}
 use Rattle.resolvo.proofs.rounds.Rounds.solvable_turns.Goals as goal
 

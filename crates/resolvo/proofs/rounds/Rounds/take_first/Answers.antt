@@ -5,8 +5,6 @@ use Rattle.resolver_clause_store.proofs.SetLemmas.{Contains-item}
 use Rattle.resolvo.specs.RoundStates.{HasTurned, HaveTurned, notes_of}
 use Rattle.resolvo.proofs.RoundLemmas.{room_same, room_trans}
 use Rattle.resolvo.proofs.SoftTurnLemmas.{none_tried, tried_last, tried_more}
-use Rattle.std.proofs.lemmas.Result.{IfOk-from_err}
-use Rattle.resolver_encoding.proofs.RefusalLemmas.{IfErr-of}
 use Rattle.resolvo.proofs.rounds.Rounds.take_first.Goals as goal
 
 pub loop-candidate-init : goal.loop-candidate-init

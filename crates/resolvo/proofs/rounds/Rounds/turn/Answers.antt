@@ -11,9 +11,6 @@ use Rattle.resolvo.specs.RoundStates.{notes_of}
 use Rattle.resolvo.proofs.SoftLemmas.{registered_adds, rounds_added, skipped, standing_loaded, standing_registered, still_added, turned_from}
 use Rattle.resolver_encoding.proofs.SoFarLemmas.{lawful_solvables}
 use Rattle.resolvo.proofs.RoundLemmas.{room_trans}
-use Rattle.std.proofs.lemmas.Result.{IfOk-from_err}
-use Rattle.resolver_encoding.proofs.RefusalLemmas.{IfErr-of, shortage_of_memory}
-use Rattle.resolvo.proofs.StuckLemmas.{full_shortage}
 use Rattle.resolvo.proofs.rounds.Rounds.turn.Goals as goal
 
 pub load-requires : goal.load-requires

@@ -1,4 +1,4 @@
-use Rattle.std.proofs.Common.{◌≡◌, ◌+◌, ◌-◌, ◌^◌, ℕ, List, Option, ap, arith, length, rules}
+use Rattle.std.proofs.Common.{◌≡◌, ◌+◌, ◌-◌, ◌^◌, List, Option, ap, arith, length, rules}
 use Rattle.std.specs.Prelude.{count_by, is_some, min}
 use Rattle.resolver_encoding.specs.ReadState.{Deferred}
 use Rattle.resolvo.specs.ClauseSearches.{learnt_count_of}

@@ -1,7 +1,6 @@
 use Rattle.std.proofs.Common.{◌≡◌, ◌++◌, ◌∷◌, [], ap, ◌∙◌, length}
 use Rattle.resolvo.specs.Sources.{learnt_from}
-use Rattle.resolvo.proofs.StoredSourceLemmas.{pushed-learnt, refused-learnt}
-use Rattle.resolver_clause_store.proofs.ResultLemmas.{refused-any}
+use Rattle.resolvo.proofs.StoredSourceLemmas.{pushed-learnt}
 use Rattle.resolvo.proofs.sources.Sources.push_learnt.Goals as goal
 
 pub returns-clause-added : goal.returns-clause-added
