@@ -12,4 +12,3 @@ pub mod LinkLemmas
 pub mod SolvableLemmas
 pub mod RangeLemmas
 pub mod ListingLemmas
-pub mod RequirementLinkLemmas

@@ -19,4 +19,3 @@ pub mod NotingProvider
 pub mod Links
 pub mod Solvables
 pub mod Listings
-pub mod RequirementLinks

@@ -7,7 +7,6 @@ ghost use Rattle.resolve.specs.Packages.{KeepsPackages, version_at};
 mod links;
 mod packages;
 mod provider;
-mod requirement_links;
 mod solvables;
 mod tables;
 #[cfg(test)]

@@ -122,11 +122,6 @@ IsOwnOrFalse trail variable literal =
 abbrev pub ImpliesValue : Trail → List Literal → ℕ → Type 0
 ImpliesValue trail clause variable = All (IsOwnOrFalse trail variable) clause
 
--- the literal is of the variable, or of a lower level than this one, or of this one and not before the place `lowest`
-abbrev pub IsLow : Trail → ℕ → ℕ → ℕ → Literal → Type 0
-IsLow trail variable level lowest literal =
-    (literal.variable ≢ variable) → (slot : Slot) → slot_of trail literal.variable ≡ Some slot → (slot.level ≤ level) × (slot.level ≡ level → lowest ≤ slot.place)
-
 -- the literals are false under the trail, one for each marked variable that has a value
 pub record Negates (trail : Trail) (marks : List Bool) (literals : List Literal) : Type 0 where
   pub falsified : IsFalsified trail literals

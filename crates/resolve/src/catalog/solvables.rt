@@ -4,7 +4,6 @@ ghost use Rattle.std.specs.Prelude.{◌≡◌, ◌<◌, ◌++◌, ◌∷◌, [],
 ghost use Rattle.resolve.specs.Solvables.{excluded_in, no_needs, reason_in, with_constraint, with_requirement};
 
 use super::links::Links;
-use super::requirement_links::RequirementLinks;
 use resolver_clause_store::{ConditionalRequirement, StringId, VersionSetId};
 use std::alloc::{AllocError, Global};
 use std::marker::Model;
@@ -62,12 +61,11 @@ struct Row {
 /// The requirements and constraints of each version, the reason for which they are unknown, if there is one, and
 /// whether the version is excluded.
 ///
-/// Most versions have a few requirements and no constraint. A version takes 16 bytes, a requirement 12 and a constraint
-/// 8, in whatever order they are declared.
+/// The lists lie in two tables, in whatever order their items are declared.
 #[derive(Drop)]
 pub struct Solvables {
     rows: Vec<Row>,
-    requirements: RequirementLinks,
+    requirements: Links<ConditionalRequirement>,
     constraints: Links<VersionSetId>,
 }
 
@@ -89,7 +87,7 @@ impl Solvables {
     {
         Solvables {
             rows: Vec::new(alloc),
-            requirements: RequirementLinks::new(alloc),
+            requirements: Links::new(alloc),
             constraints: Links::new(alloc),
         }
     }
