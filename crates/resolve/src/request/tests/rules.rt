@@ -27,6 +27,8 @@ enum Wanted {
     NoSet,
     /// The root requires the second solvable or the first one, in this order, and both are excluded.
     BothExcluded,
+    /// There are five rules, and none names the third solvable.
+    WithoutThird,
 }
 
 fn are_exclusion_and_requirement(rules: &[Rule<NameId, SolvableId>]) -> bool {
@@ -151,6 +153,28 @@ fn are_requirement_and_both_exclusions(rules: &[Rule<NameId, SolvableId>]) -> bo
         && rules.iter().any(|rule| excludes(rule, 1))
 }
 
+/// Returns whether a rule names a solvable.
+fn names(rule: &Rule<NameId, SolvableId>, solvable: SolvableId) -> bool {
+    match rule {
+        Rule::Requires { by, candidates, .. } => {
+            *by == By::Solvable(solvable) || candidates.iter().any(|s| *s == solvable)
+        }
+        Rule::Constrains { by, candidate, .. } => {
+            *by == By::Solvable(solvable) || *candidate == solvable
+        }
+        Rule::Lock { locked, forbidden } => *locked == solvable || *forbidden == solvable,
+        Rule::Excluded {
+            solvable: excluded,
+            ..
+        } => *excluded == solvable,
+        Rule::OnePerPackage { instance, .. } => *instance == solvable,
+    }
+}
+
+fn are_without_third(rules: &[Rule<NameId, SolvableId>]) -> bool {
+    rules.len() == 5 && !rules.iter().any(|rule| names(rule, SolvableId(2)))
+}
+
 fn are_as(alloc: Global, rules: &[Rule<NameId, SolvableId>], wanted: Wanted) -> bool {
     match wanted {
         Wanted::Excluded => are_exclusion_and_requirement(rules),
@@ -160,6 +184,7 @@ fn are_as(alloc: Global, rules: &[Rule<NameId, SolvableId>], wanted: Wanted) -> 
         Wanted::GateAndHelper => are_gate_and_helper(rules),
         Wanted::NoSet => leave_no_set(rules, 64),
         Wanted::BothExcluded => are_requirement_and_both_exclusions(rules),
+        Wanted::WithoutThird => are_without_third(rules),
     }
 }
 
@@ -282,6 +307,16 @@ fn a_union_that_overlaps_itself_lists_each_candidate_once(rt: HostRuntime) -> Re
     let input =
         "package a=1\npackage a=2\nexclude a=1 bad\nexclude a=2 bad\nrequire a@1..3 | a@2\n";
     assert!(rt; has_rules(rt.alloc(), input, Wanted::BothExcluded)?);
+    Ok(())
+}
+
+/// Declares a 1, a 2, b 1, b 2, c 1 and c 2, in this order. Both versions of a fail by c 2, and a 2 by b 1 as well.
+const DETOUR: &str =
+    "package a=1\npackage a=2\npackage b=1\npackage b=2\npackage c=1\npackage c=2\nrequires a=1 c@2\nrequires a=2 b@1\nrequires a=2 c@2\nconstrains b=1 c@2\nconstrains b=2 c@1\nrequires c=2 b@2\nrequire a\nrequire c\n";
+
+#[test]
+fn a_needless_detour_is_not_named(rt: HostRuntime) -> Result<(), Fail> {
+    assert!(rt; has_rules(rt.alloc(), DETOUR, Wanted::WithoutThird)?);
     Ok(())
 }
 
