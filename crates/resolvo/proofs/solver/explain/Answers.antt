@@ -19,11 +19,12 @@ returns-clause-explained g c = λ root notes kinds encoding core.
     λ ks. AreListed u (Implied ks) (kinds_at ks c.args.core.now) c.in_ok-stated.stated.items in
     let Stated : List (ClauseKind g.row.D-NameId.Denot g.row.D-SolvableId.Denot) → Type 0 =
     λ ks. AreStated u (Implied ks) (kinds_at ks c.args.core.now) c.in_ok-stated.stated.items in
-    explained u g.D.NameId.PartialEq.eq root notes c.args.core.now c.in_ok-stated.stated.items c.in_ok-rules.rules.items
+    c.in_ok-conflict.ensures.explains u root
+    (explained u g.D.NameId.PartialEq.eq root notes c.args.core.now c.in_ok-stated.stated.items c.in_ok-rules.rules.items
     (lawful_solvables u g.D.SolvableId.PartialEq.eq (g.met.D.Interner.lawful_ids c.args.provider.now)
     (g.met.D.Interner.solvables_compare c.args.provider.now) g.met.D.Interner.solvables_are_values) g.met.D.Interner.names_are_values encoding core
     (subst Listed (sym kinds) c.in_ok-stated.ensures.listed) (subst Stated (sym kinds) c.in_ok-stated.ensures.stated)
-    c.in_ok-rules.ensures.left c.in_ok-rules.ensures.refuted c.in_ok-rules.ensures.again
+    c.in_ok-rules.ensures.left c.in_ok-rules.ensures.refuted c.in_ok-rules.ensures.again)
 
 pub returns-clause-is_true : goal.returns-clause-is_true
 returns-clause-is_true g c = grind (arith, common_steps)

@@ -1,4 +1,6 @@
 use Rattle.resolvo.proofs.LoadLemmas.{finished_for, problem-trans}
+use Rattle.resolver_encoding.proofs.RefusalLemmas.{IfErr-stop}
+use Rattle.std.proofs.lemmas.Result.{IfOk-from_err}
 use Rattle.resolvo.proofs.clause_search.ClauseSearch.run.Goals as goal
 
 pub returns-in-None : goal.returns-in-None
@@ -50,3 +52,15 @@ learn-requires-clause-consistent g c = c.in_ok-descend.ensures.consistent
 
 pub learn-requires-clause-conflict : goal.learn-requires-clause-conflict
 learn-requires-clause-conflict g c = rw c.in-Some.is at c.in_ok-descend.ensures.conflict
+
+pub returns-in_err-restart-in-None-2 : goal.returns-in_err-restart-in-None-2
+returns-in_err-restart-in-None-2 g c =
+    record {
+      outcome = IfOk-from_err c.from_residual-in_err-restart-in-None-2.result _ c.from_residual-in_err-restart-in-None-2.ensures.0;
+      consistent = IfOk-from_err c.from_residual-in_err-restart-in-None-2.result _ c.from_residual-in_err-restart-in-None-2.ensures.0;
+      loaded = IfOk-from_err c.from_residual-in_err-restart-in-None-2.result _ c.from_residual-in_err-restart-in-None-2.ensures.0;
+      variables = IfOk-from_err c.from_residual-in_err-restart-in-None-2.result _ c.from_residual-in_err-restart-in-None-2.ensures.0;
+      kept = IfOk-from_err c.from_residual-in_err-restart-in-None-2.result _ c.from_residual-in_err-restart-in-None-2.ensures.0;
+      turn = IfOk-from_err c.from_residual-in_err-restart-in-None-2.result _ c.from_residual-in_err-restart-in-None-2.ensures.0;
+      refusal = IfErr-stop c.from_residual-in_err-restart-in-None-2.result (g.D.DependencyProvider.may_cancel c.args.provider.now) _ _ c.from_residual-in_err-restart-in-None-2.ensures.1 c.in_err-restart-in-None-2.ensures.refusal;
+    }

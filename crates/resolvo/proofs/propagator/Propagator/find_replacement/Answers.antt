@@ -5,6 +5,9 @@ use Rattle.resolver_clause_store.specs.declared.Literal.{Literal}
 use Rattle.resolvo.proofs.VisitLemmas.{moves, own-other, extends-same}
 use Rattle.resolvo.proofs.ReplacementLemmas.{replaces-at}
 use Rattle.resolvo.proofs.TwoLiteralLemmas.{false-now, own-false}
+use Rattle.resolver_clause_store.proofs.ResultLemmas.{refused-any}
+use Rattle.resolvo.proofs.WatchedLemmas.{owned-of, owned-same}
+use Rattle.std.proofs.lemmas.Result.{IfOk-from_err}
 use Rattle.resolvo.proofs.propagator.Propagator.find_replacement.Goals as goal
 
 pub returns-in_ok-move_watch-in-Some : goal.returns-in_ok-move_watch-in-Some
@@ -54,3 +57,15 @@ pub move_watch-requires-clause-differ : goal.move_watch-requires-clause-differ
 move_watch-requires-clause-differ c = λ same.
     let IsFalse : Literal → Type 0 = λ l. literal_value c.args.trail.now l ≡ Some false in
     (rw c.clause-literals.ensures at (replaces-at _ _ _ _ _ c.in-Some.ensures c.index-literals-place.is)).not_false (subst IsFalse same (false-now _ _ _ _ _ c.requires.visiting))
+
+pub returns-in_err-move_watch-in-Some : goal.returns-in_err-move_watch-in-Some
+returns-in_err-move_watch-in-Some c =
+    record {
+      outcome = IfOk-from_err c.from_residual.result _ c.from_residual.ensures.0;
+      refused = refused-any _ _ (owned-same _ _ _ c.in_err-move_watch-in-Some.ensures.kept (owned-of _ _ _ c.requires.visiting.propagator));
+      justified = c.requires.justified;
+      extends = extends-same c.args.trail.now;
+      size = refl;
+      open_ones = omega arith;
+      total = refl;
+    }

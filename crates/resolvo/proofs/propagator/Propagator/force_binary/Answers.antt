@@ -1,9 +1,11 @@
 use Rattle.std.proofs.Common.{arith}
 use Rattle.resolver_clause_store.proofs.TrailLemmas.{value-none}
 use Rattle.resolvo.proofs.AttachingLemmas.{gained-satisfied}
-use Rattle.resolvo.proofs.JustifiedLemmas.{justified-gains}
+use Rattle.resolvo.proofs.JustifiedLemmas.{justified-gains, justified-same}
 use Rattle.resolvo.proofs.VisitLemmas.{below-contains, forces, stands-placed}
 use Rattle.resolvo.proofs.TwoLiteralLemmas.{binary-unit}
+use Rattle.resolver_clause_store.proofs.ResultLemmas.{refused-any}
+use Rattle.resolvo.proofs.WatchedLemmas.{owned-of}
 use Rattle.resolvo.proofs.propagator.Propagator.force_binary.Goals as goal
 
 pub force-requires-clause-inside : goal.force-requires-clause-inside
@@ -24,3 +26,16 @@ returns-clause-justified c =
 
 pub pass_by-requires-clause-stands : goal.pass_by-requires-clause-stands
 pass_by-requires-clause-stands c = stands-placed _ c.args.binary.now.placed c.requires.stands
+
+pub returns-in_err-force-clause-refused : goal.returns-in_err-force-clause-refused
+returns-in_err-force-clause-refused c = refused-any _ _ (owned-of _ _ _ c.requires.visiting.propagator)
+
+pub returns-in_err-force-clause-justified : goal.returns-in_err-force-clause-justified
+returns-in_err-force-clause-justified c = justified-same _ _ _ c.requires.justified c.in_err-force.ensures.err
+
+pub returns-in_err-outcome-clause-justified : goal.returns-in_err-outcome-clause-justified
+returns-in_err-outcome-clause-justified c =
+    let was = c.requires.visiting.propagator in
+    justified-gains _ _ _ _ _ _ c.requires.justified c.in_ok-force.ensures.ok (value-none _ _ c.requires.free)
+    (omega (arith, c.requires.inside, was.watched.attached)) c.requires.own
+    (binary-unit _ _ _ _ _ c.requires.visiting _ _ c.requires.watching c.requires.own c.requires.two c.requires.free)
