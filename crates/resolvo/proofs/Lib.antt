@@ -22,7 +22,6 @@ pub mod SolveLemmas
 pub mod RoundLemmas
 pub mod GoingLemmas
 pub mod RefusingLemmas
-pub mod StuckLemmas
 pub mod SoftLemmas
 pub mod SoftTurnLemmas
 pub mod OutcomeLemmas

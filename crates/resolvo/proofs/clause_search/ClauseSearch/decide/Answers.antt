@@ -1,4 +1,4 @@
-use Rattle.std.proofs.Common.{List, ap, arith, subst, sym, ◌∙◌, true, false}
+use Rattle.std.proofs.Common.{List, ap, arith, subst, sym, ◌∙◌}
 use Rattle.std.proofs.lemmas.Bool.{false≢true}
 use Rattle.resolver_clause_store.specs.Decisions.{IsChoice}
 use Rattle.resolver_clause_store.specs.declared.Literal.{Literal}
