@@ -135,11 +135,6 @@ impl DecideQueue {
         Ok(())
     }
 
-    /// Returns the package of a variable, if it is known.
-    pub fn owner_of(&self, variable: Variable) -> Owner {
-        self.ranks.owner_of(variable)
-    }
-
     /// Returns the score of a variable's package, 0 if it has none.
     pub fn score_of(&self, variable: Variable) -> u64 {
         self.ranks.score_of(variable)

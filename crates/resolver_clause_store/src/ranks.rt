@@ -225,7 +225,7 @@ impl Ranks {
     }
 
     /// Returns the package of a variable, if it is known.
-    pub fn owner_of(&self, variable: Variable) -> Owner {
+    fn owner_of(&self, variable: Variable) -> Owner {
         match self.owners.get(variable.index()) {
             Some(owner) => *owner,
             None => Owner::none(),
