@@ -1,6 +1,6 @@
 -- What `?` returns: the error of the call, or what that becomes.
 use Rattle.std.specs.Prelude.{Err, IfErr, IsErrAnd, Ok, Result}
-use Rattle.std.proofs.Common.{◌≡◌, refl, subst, sym}
+use Rattle.std.proofs.Common.{◌≡◌, subst, sym}
 use Rattle.resolver_clause_store.specs.Interruptions.{IsInterruption}
 use Rattle.resolver_clause_store.specs.declared.Exhausted.{Exhausted as Shortage}
 use Rattle.resolver_clause_store.specs.declared.Exhausted.TheVariants.{Memory, Ids}
@@ -15,10 +15,6 @@ IfErr-of (Err y) e P is p = subst P (sym is) p
 pub shortage_of_memory : (at_limit : Type 0) (e : Shortage) → e ≡ Memory → IsShortage at_limit e
 shortage_of_memory at_limit Memory is = tt
 shortage_of_memory at_limit Ids is = absurd cc
-
-pub shortage_at_limit : (at_limit : Type 0) (e : Shortage) → (e ≡ Ids → at_limit) → IsShortage at_limit e
-shortage_at_limit at_limit Memory full = tt
-shortage_at_limit at_limit Ids full = full refl
 
 pub IfErr-stop : {T C : Type 0} (r : Result T (Interrupted C)) (may_cancel : C → Type 0) (at_limit : Type 0) (e : Interrupted C) → IsErrAnd r (λ y. y ≡ e) →
     IsInterruption may_cancel e → IfErr r (IsStop may_cancel at_limit)

@@ -1,12 +1,11 @@
 -- Lists that are stored as runs.
-use Rattle.std.proofs.Common.{◌≡◌, ℕ, zero, suc, ◌+◌, ◌-◌, ◌<◌, ◌≤◌, ◌^◌, List, [], ◌∷◌, ◌++◌, length, map, get_or, Option, Some, None, true, false}
+use Rattle.std.proofs.Common.{◌≡◌, ℕ, zero, suc, ◌+◌, ◌-◌, ◌<◌, ◌≤◌, ◌^◌, List, [], ◌∷◌, ◌++◌, length, map, get_or, Some, true, false}
 use Rattle.std.proofs.Common.{arith, refl, sym, ap, subst, ◌∙◌}
 use Rattle.std.specs.List.{All, range_with_len}
 use Rattle.std.specs.List.Sorted.{IsPartitionPoint}
-use Rattle.std.specs.Option.{option_map}
 use Rattle.std.specs.Prelude.{nat_le, nat_lt, if◌then◌else◌, slice_get, slice_set, take}
 use Rattle.std.proofs.lemmas.Bool.{le-leb, lt-leb, ltb-false, ltb-true}
-use Rattle.std.proofs.lemmas.List.{append-nil, append_assoc, get_or-take, get_or_push, length-append, length-take, map_push, take_all}
+use Rattle.std.proofs.lemmas.List.{append-nil, append_assoc, get_or-take, get_or_push, length-append, length-take, take_all}
 use Rattle.std.proofs.lemmas.List.Elements.{All-push}
 use Rattle.std.proofs.lemmas.List.FromFn.{get_or-map-range_with_len, length-map-range_with_len, map-range_with_len_more, take-map-range_with_len}
 use Rattle.std.proofs.lemmas.List.Sorted.{IsNonDecreasingBy-push, IsNonDecreasingBy-take}
@@ -172,15 +171,6 @@ next-of_last (run ∷ runs) count last are is =
     let same : Some last ≡ Some (get_or (run ∷ runs) (length runs) last) = is ∙ ap (slice_get (run ∷ runs)) end ∙ here in
     let found : run_at run runs count ≡ last = last_run run runs count last are ∙ cc in
     next-here run runs count are ∙ ap (λ one. Some (entry_in one count)) found
-
-pub gone_on : {T : Type 0} (runs : List (Run T)) (count : ℕ) (entry : T × ℕ) → AreRuns runs count → next_of (entries_of runs count) ≡ Some entry →
-    entries_of runs (count + 1) ≡ entries_of runs count ++ entry ∷ []
-gone_on [] count entry are is = absurd cc
-gone_on (run ∷ runs) count entry are is =
-    let next = next-here run runs count are in
-    let same : entry_in (run_at run runs count) count ≡ entry = cc in
-    map-range_with_len_more (λ index. entry_in (run_at run runs index) index) 0 count count (omega arith) ∙
-    ap (λ last. entries_of (run ∷ runs) count ++ last ∷ []) same
 
 -- the first entries, and those behind them
 map-parted : {X : Type 0} (f g : ℕ → X) (start count : ℕ) → ((k : ℕ) → k < count → f (start + k) ≡ g k) →
@@ -394,18 +384,6 @@ begun-entry (run ∷ runs) count index (suc begun) found are inside begin is =
     ap (λ one. Some (entry_in one index)) (run_at-point run runs index begun found (omega (arith, begin.within))
     (λ k less. omega (arith, begin.before k found less)) (λ k more less. omega (arith, begin.after k found more less)) ∙
     ap (λ k. get_or (run ∷ runs) k found) last ∙ sym is)
-
--- the list of what the entries stand for, when the last run goes on
-went-on-to : {T X : Type 0} (value : T × ℕ → X) (old new : List (T × ℕ)) (x : X) (next : Option (T × ℕ)) → next_of old ≡ next → option_map value next ≡ Some x →
-    ((entry : T × ℕ) → next_of old ≡ Some entry → new ≡ old ++ entry ∷ []) → map value new ≡ map value old ++ x ∷ []
-went-on-to value old new x None next is more = absurd cc
-went-on-to value old new x (Some entry) next is more =
-    let same : value entry ≡ x = cc in
-    ap (map value) (more entry next) ∙ map_push value old entry ∙ ap (λ last. map value old ++ last ∷ []) same
-
-pub went-on : {T X : Type 0} (value : T × ℕ → X) (old new : List (T × ℕ)) (x : X) → option_map value (next_of old) ≡ Some x →
-    ((entry : T × ℕ) → next_of old ≡ Some entry → new ≡ old ++ entry ∷ []) → map value new ≡ map value old ++ x ∷ []
-went-on value old new x is more = went-on-to value old new x (next_of old) refl is more
 
 pub all-taken : {T : Type 0} (runs : List (Run T)) (count : ℕ) (entries : List (T × ℕ)) (more : ℕ) → AreRuns runs count → entries_of runs count ≡ entries →
     count ≤ more → entries ≡ take more entries

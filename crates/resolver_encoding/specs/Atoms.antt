@@ -81,10 +81,6 @@ abbrev pub front : {N S : Type 0} → Origin N S × Bool → Option (Origin N S 
 front first None = atom first.0 first.1 ∷ []
 front first (Some second) = atom first.0 first.1 ∷ atom second.0 second.1 ∷ []
 
--- an atom of the list has this origin
-abbrev pub IsMentioned : {N S : Type 0} → List (Atom N S) → Origin N S → Type 0
-IsMentioned {N} {S} atoms o = (a : Atom N S) × Contains atoms a × (o ≡ a.origin)
-
 -- whether the set has the solvable
 abbrev pub has : {N S : Type 0} → Universe N S → List S → S → Bool
 has u set s = list_any (u.same_solvable s) set

@@ -139,17 +139,6 @@ impl<T: Copy> Runs<T> {
         }
     }
 
-    /// Appends the entry that comes after the last one. An error changes nothing.
-    pub fn go_on(&mut self) -> Result<(), AllocError>
-        requires { 0 < length self.old }
-        ensures added { OnOk result ((entry : T × ℕ) → next_of self.old ≡ Some entry → self.new ≡ self.old ++ entry ∷ []) }
-        ensures few { OnOk result (length self.old < 2 ^ 32) }
-        ensures unchanged { OnErr result (self.new ≡ self.old) }
-    {
-        self.count = narrow(self.count as usize + 1)?;
-        Ok(())
-    }
-
     /// Appends an entry that begins a run. An error changes nothing.
     pub fn begin(&mut self, entry: T) -> Result<(), AllocError>
         ensures added { OnOk result (self.new ≡ self.old ++ (entry, 0) ∷ []) }

@@ -8,8 +8,6 @@ use Rattle.resolver_encoding.specs.Groups.{IsNamed}
 use Rattle.resolver_encoding.specs.Listing.{AddsRules, StatesRule, SomeOf}
 use Rattle.resolver_clause_store.specs.Statements.{constrains, requires}
 use Rattle.resolver_encoding.proofs.ListingLemmas.{added_same}
-use Rattle.std.proofs.lemmas.Result.{IfOk-from_err}
-use Rattle.resolver_encoding.proofs.RefusalLemmas.{IfErr-of}
 use Rattle.resolver_encoding.proofs.explain.add_rules.Goals as goal
 
 pub returns-in_ok-add_requirement-in-Requires : goal.returns-in_ok-add_requirement-in-Requires

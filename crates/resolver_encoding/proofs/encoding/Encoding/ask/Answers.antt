@@ -8,9 +8,7 @@ use Rattle.resolver_encoding.proofs.EncodingLemmas.{IsAskStep-same, IsStep-trans
 use Rattle.resolver_encoding.proofs.NoteLemmas.{IsPackageRead-found, IsStep-asked}
 use Rattle.resolver_encoding.specs.Turns.{AddsPlainly}
 use Rattle.resolver_encoding.proofs.TurnLemmas.{AddsPlainly-trans, AsksOnly-of, AsksOnly-same}
-use Rattle.std.proofs.lemmas.Result.{IfOk-from_err}
 use Rattle.resolver_encoding.specs.Called.{IsAsking}
-use Rattle.resolver_encoding.proofs.RefusalLemmas.{IfErr-of, IfErr-stop, shortage_of_memory}
 use Rattle.resolver_encoding.proofs.encoding.Encoding.ask.Goals as goal
 
 pub append-requires-clause-absent : goal.append-requires-clause-absent

@@ -1,8 +1,6 @@
 use Rattle.std.proofs.Common.{List, ap, arith, length, refl, sym, subst, Contains}
 use Rattle.std.proofs.Common.{◌∙◌, ◌+◌, ◌≡◌}
 use Rattle.std.proofs.lemmas.List.{length_push}
-use Rattle.std.proofs.lemmas.Result.{IfOk-from_err}
-use Rattle.resolver_encoding.proofs.RefusalLemmas.{IfErr-of}
 use Rattle.resolver_clause_store.specs.SoftRun.{Exempts, asked_before, not_asked}
 use Rattle.resolver_encoding.specs.Notes.{notes_in}
 use Rattle.resolver_encoding.proofs.TurnLemmas.{StaysRead-exempting, StaysRead-same}

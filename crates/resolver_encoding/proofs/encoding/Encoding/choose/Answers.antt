@@ -6,9 +6,6 @@ use Rattle.resolver_encoding.specs.Called.{IsNamedBy, IsSeeingEach, IsWantedBy}
 use Rattle.resolver_encoding.specs.Notes.{notes_in}
 use Rattle.resolver_encoding.proofs.EncodingLemmas.{IsAskStep-trans, IsAskStep-weaker}
 use Rattle.resolver_encoding.proofs.RequirementLemmas.{listed_wanted, named_wanted}
-use Rattle.std.proofs.lemmas.Result.{IfOk-from_err}
-use Rattle.resolver_encoding.proofs.RefusalLemmas.{IfErr-of}
-use Rattle.resolver_encoding.proofs.RefusalLemmas.{IfErr-stop}
 use Rattle.resolver_encoding.proofs.encoding.Encoding.choose.Goals as goal
 
 pub returns : goal.returns

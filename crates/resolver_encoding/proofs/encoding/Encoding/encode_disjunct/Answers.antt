@@ -1,7 +1,5 @@
 use Rattle.std.proofs.Common.{refl}
 use Rattle.std.specs.Prelude.{⊤}
-use Rattle.std.proofs.lemmas.Result.{IfOk-from_err}
-use Rattle.resolver_encoding.proofs.RefusalLemmas.{IfErr-of}
 use Rattle.resolver_encoding.proofs.RoomLemmas.{KeepsRoom-trans}
 use Rattle.resolver_encoding.specs.Called.{IsWantedBy}
 use Rattle.resolver_encoding.specs.Encodings.{IsTrueUnder}

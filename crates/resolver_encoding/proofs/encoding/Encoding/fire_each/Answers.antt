@@ -1,6 +1,4 @@
 use Rattle.std.proofs.Common.{arith}
-use Rattle.std.proofs.lemmas.Result.{IfOk-from_err}
-use Rattle.resolver_encoding.proofs.RefusalLemmas.{IfErr-of}
 use Rattle.resolver_clause_store.proofs.SetLemmas.{All-done}
 use Rattle.resolver_encoding.specs.Notes.{notes_in}
 use Rattle.resolver_encoding.specs.SoFar.{IsQuietAt}

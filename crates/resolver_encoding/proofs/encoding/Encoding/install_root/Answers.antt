@@ -1,8 +1,6 @@
-use Rattle.std.proofs.Common.{◌∙◌, refl, ap, inl}
-use Rattle.std.proofs.lemmas.Result.{IfOk-from_err}
+use Rattle.std.proofs.Common.{◌∙◌, refl, ap}
 use Rattle.resolver_encoding.specs.Notes.{notes_in}
 use Rattle.resolver_encoding.proofs.ReadLemmas.{installed}
-use Rattle.resolver_encoding.proofs.RefusalLemmas.{IfErr-of, shortage_at_limit}
 use Rattle.resolver_encoding.proofs.encoding.Encoding.install_root.Goals as goal
 
 pub returns-clause-installed : goal.returns-clause-installed

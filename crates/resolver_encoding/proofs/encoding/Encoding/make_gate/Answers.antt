@@ -8,9 +8,6 @@ use Rattle.resolver_encoding.specs.Encodings.{idle}
 use Rattle.resolver_encoding.specs.Notes.{notes_in}
 use Rattle.resolver_encoding.proofs.EncodingLemmas.{IsStep-trans, clause_listed}
 use Rattle.resolver_encoding.proofs.NoteLemmas.{IsStep-gated, IsStep-kind}
-use Rattle.std.proofs.lemmas.Result.{IfOk-from_err}
-use Rattle.resolver_encoding.proofs.RefusalLemmas.{IfErr-of}
-use Rattle.resolver_encoding.proofs.RefusalLemmas.{shortage_of_memory}
 use Rattle.resolver_encoding.proofs.RoomLemmas.{KeepsRoom-same}
 use Rattle.resolver_encoding.proofs.EncodingLemmas.{IsStep-same}
 use Rattle.resolver_encoding.proofs.encoding.Encoding.make_gate.Goals as goal

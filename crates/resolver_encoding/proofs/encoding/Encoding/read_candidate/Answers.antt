@@ -3,9 +3,6 @@ use Rattle.resolver_clause_store.specs.Caches.{HasCandidates, hinted}
 use Rattle.resolver_encoding.proofs.HintLemmas.{unhinted}
 use Rattle.resolver_encoding.proofs.SoFarLemmas.{IsReadingOf-same}
 use Rattle.resolver_encoding.specs.Notes.{notes_in}
-use Rattle.std.proofs.lemmas.Result.{IfOk-from_err}
-use Rattle.resolver_encoding.proofs.RefusalLemmas.{IfErr-of}
-use Rattle.resolver_encoding.proofs.RefusalLemmas.{IfErr-stop}
 use Rattle.resolver_encoding.proofs.RoomLemmas.{KeepsRoom-same}
 use Rattle.resolver_encoding.proofs.encoding.Encoding.read_candidate.Goals as goal
 

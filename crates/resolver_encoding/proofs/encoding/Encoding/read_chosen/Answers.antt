@@ -6,8 +6,6 @@ use Rattle.resolver_encoding.specs.declared.progress.Progress.{Progress}
 use Rattle.resolver_encoding.proofs.HintLemmas.{asked_on, longer, more_on, progress_then, so_far_on}
 use Rattle.resolver_encoding.proofs.ReachLemmas.{near_after}
 use Rattle.resolver_encoding.proofs.SoFarLemmas.{all_asked, firing_half, lawful_solvables, progress, read_more, so_far}
-use Rattle.std.proofs.lemmas.Result.{IfOk-from_err}
-use Rattle.resolver_encoding.proofs.RefusalLemmas.{IfErr-of}
 use Rattle.resolver_encoding.proofs.RoomLemmas.{KeepsRoom-trans}
 use Rattle.resolver_encoding.proofs.encoding.Encoding.read_chosen.Goals as goal
 

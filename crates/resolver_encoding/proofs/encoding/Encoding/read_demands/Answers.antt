@@ -13,8 +13,6 @@ use Rattle.resolver_encoding.proofs.EncodingLemmas.{IsReadStep-of, IsReadStep-tr
 use Rattle.resolver_encoding.proofs.ReadLemmas.{IsReadRequirement-within}
 use Rattle.resolver_encoding.proofs.RequirementLemmas.{plainly_called}
 use Rattle.resolver_encoding.proofs.RoomLemmas.{KeepsRoom-trans}
-use Rattle.std.proofs.lemmas.Result.{IfOk-from_err}
-use Rattle.resolver_encoding.proofs.RefusalLemmas.{IfErr-of}
 use Rattle.resolver_encoding.proofs.encoding.Encoding.read_demands.Goals as goal
 
 pub read_requirements-requires-clause-encoding : goal.read_requirements-requires-clause-encoding

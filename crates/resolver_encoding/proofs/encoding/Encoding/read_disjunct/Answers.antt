@@ -7,11 +7,6 @@ use Rattle.resolver_clause_store.specs.TrueRules.{Implies}
 use Rattle.resolver_encoding.proofs.EncodingLemmas.{IsAskStep-weaker, IsReadStep-of}
 use Rattle.resolver_encoding.proofs.FiringLemmas.{IsReadStep-deferral, deferral_left}
 use Rattle.resolver_encoding.proofs.RequirementLemmas.{disjunct_implies, fails_if, holds_if}
-use Rattle.std.proofs.lemmas.Result.{IfOk-from_err}
-use Rattle.resolver_encoding.proofs.RefusalLemmas.{IfErr-of}
-use Rattle.resolver_encoding.proofs.RefusalLemmas.{IfErr-stop}
-use Rattle.resolver_encoding.proofs.RefusalLemmas.{shortage_of_memory}
-use Rattle.resolver_encoding.proofs.RoomLemmas.{KeepsRoom-same}
 use Rattle.resolver_encoding.proofs.encoding.Encoding.read_disjunct.Goals as goal
 use Rattle.resolver_clause_store.proofs.DemandLemmas.{active_by}
 

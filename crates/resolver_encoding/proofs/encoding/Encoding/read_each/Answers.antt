@@ -8,8 +8,6 @@ use Rattle.resolver_encoding.proofs.SoFarLemmas.{AreEach-done, AreEach-more, Are
 use Rattle.resolver_encoding.proofs.SoFarLemmas.{IsReadingOf-trans, IsReadingOf-weaker, no_more_read}
 use Rattle.resolver_encoding.proofs.ReadLemmas.{seen_fit}
 use Rattle.resolver_encoding.proofs.RoomLemmas.{KeepsRoom-same, KeepsRoom-trans}
-use Rattle.std.proofs.lemmas.Result.{IfOk-from_err}
-use Rattle.resolver_encoding.proofs.RefusalLemmas.{IfErr-of}
 use Rattle.resolver_encoding.proofs.encoding.Encoding.read_each.Goals as goal
 
 pub loop-place-init : goal.loop-place-init

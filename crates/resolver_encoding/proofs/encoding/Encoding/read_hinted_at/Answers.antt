@@ -1,7 +1,3 @@
-use Rattle.std.proofs.lemmas.Result.{IfOk-from_err}
-use Rattle.resolver_encoding.proofs.RefusalLemmas.{IfErr-of}
-use Rattle.resolver_encoding.proofs.RefusalLemmas.{shortage_of_memory}
-use Rattle.std.proofs.Common.{refl}
 use Rattle.resolver_encoding.proofs.encoding.Encoding.read_hinted_at.Goals as goal
 
 pub returns : goal.returns

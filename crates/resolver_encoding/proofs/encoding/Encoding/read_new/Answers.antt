@@ -4,9 +4,6 @@ use Rattle.resolver_encoding.proofs.RoomLemmas.{KeepsRoom-same}
 use Rattle.std.proofs.Common.{◌≡◌, inl, inr, refl}
 use Rattle.resolver_encoding.specs.Notes.{notes_in}
 use Rattle.resolver_encoding.proofs.SoFarLemmas.{HasRead-read, IsReadingOf-read, IsReadingOf-same}
-use Rattle.std.proofs.lemmas.Result.{IfOk-from_err}
-use Rattle.resolver_encoding.proofs.RefusalLemmas.{IfErr-of}
-use Rattle.resolver_encoding.proofs.RefusalLemmas.{shortage_of_memory}
 use Rattle.resolver_encoding.proofs.encoding.Encoding.read_new.Goals as goal
 
 pub returns-then-is_among : goal.returns-then-is_among

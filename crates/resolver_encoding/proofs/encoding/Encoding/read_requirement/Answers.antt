@@ -1,8 +1,6 @@
 use Rattle.resolver_encoding.specs.Encodings.{IsLeft, IsUnmet}
 use Rattle.resolver_encoding.specs.Notes.{notes_in}
 use Rattle.resolver_encoding.proofs.RequirementLemmas.{plain_has, plain_step}
-use Rattle.std.proofs.lemmas.Result.{IfOk-from_err}
-use Rattle.resolver_encoding.proofs.RefusalLemmas.{IfErr-of}
 use Rattle.resolver_encoding.proofs.encoding.Encoding.read_requirement.Goals as goal
 
 pub returns-in_ok-read_plain-in-Some : goal.returns-in_ok-read_plain-in-Some

@@ -13,8 +13,6 @@ use Rattle.resolver_encoding.proofs.HintLemmas.{asked_on, so_far_on}
 use Rattle.resolver_encoding.proofs.ReachLemmas.{root_near}
 use Rattle.resolver_encoding.proofs.SoFarLemmas.{root_asked, root_so_far}
 use Rattle.resolver_clause_store.proofs.ListLemmas.{Contains-none as none_in}
-use Rattle.std.proofs.lemmas.Result.{IfOk-from_err}
-use Rattle.resolver_encoding.proofs.RefusalLemmas.{IfErr-of}
 use Rattle.resolver_encoding.proofs.RoomLemmas.{KeepsRoom-trans}
 use Rattle.resolver_encoding.proofs.encoding.Encoding.read_root.Goals as goal
 

@@ -9,10 +9,6 @@ use Rattle.resolver_encoding.specs.Called.{Call, IsDemanded}
 use Rattle.resolver_encoding.specs.Encodings.{IsUnmet}
 use Rattle.resolver_encoding.specs.Notes.{notes_in}
 use Rattle.resolver_encoding.proofs.EncodingLemmas.{IsAskStep-of, IsEncodingOf-weaker, IsReadStep-of, IsReadStep-weaker}
-use Rattle.std.proofs.lemmas.Result.{IfOk-from_err}
-use Rattle.resolver_encoding.proofs.RefusalLemmas.{IfErr-of}
-use Rattle.resolver_encoding.proofs.RefusalLemmas.{IfErr-stop}
-use Rattle.resolver_encoding.proofs.RoomLemmas.{KeepsRoom-same}
 use Rattle.resolver_encoding.proofs.encoding.Encoding.read_solvable.Goals as goal
 
 demands_known : (d : Demands) (needs : Needs) → known d ≡ needs → demands_of needs ≡ d

@@ -14,10 +14,6 @@ use Rattle.resolver_encoding.proofs.NoteLemmas.{IsStep-origins}
 use Rattle.resolver_encoding.proofs.SeeLemmas.{IsStep-seen}
 use Rattle.resolver_encoding.proofs.SoFarLemmas.{IsWithin-equal}
 use Rattle.resolver_clause_store.proofs.ListLemmas.{Contains-at as place_in}
-use Rattle.std.proofs.lemmas.Result.{IfOk-from_err}
-use Rattle.resolver_encoding.proofs.RefusalLemmas.{IfErr-of}
-use Rattle.resolver_encoding.proofs.RefusalLemmas.{shortage_at_limit}
-use Rattle.resolver_encoding.proofs.RefusalLemmas.{shortage_of_memory}
 use Rattle.resolver_encoding.proofs.encoding.Encoding.register_new.Goals as goal
 
 pub begin_digit-requires-clause-below : goal.begin_digit-requires-clause-below
