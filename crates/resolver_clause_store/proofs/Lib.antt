@@ -19,7 +19,6 @@ pub mod UnionLemmas
 pub mod AvailabilityLemmas
 pub mod SlotLemmas
 pub mod StoredSlotLemmas
-pub mod StoredSignLemmas
 pub mod MemberLemmas
 pub mod TrailLemmas
 pub mod ClauseLists
@@ -31,8 +30,6 @@ pub mod LastOpenLemmas
 pub mod LevelLemmas
 pub mod SettledLemmas
 pub mod WatchListLemmas
-pub mod ParkedLemmas
-pub mod ListPoolLemmas
-pub mod LongListLemmas
+pub mod NumberedListLemmas
 pub mod QueueLemmas
 pub mod ScoreLemmas

@@ -9,7 +9,7 @@ use Rattle.std.proofs.Math.ListN.{get_or-append}
 use Rattle.std.proofs.Math.Seq.{get_or-append_seam, take-suc}
 use Rattle.std.proofs.lemmas.Bool.{cases_eq, cases_lt, false≢true}
 use Rattle.std.proofs.lemmas.List.{get_or_default, take_all}
-use Rattle.std.proofs.lemmas.Option.{none-some, same_Some}
+use Rattle.std.proofs.lemmas.Option.{same_Some}
 use Rattle.std.proofs.lemmas.List.Elements.{Contains-append_cases, Contains-append_left, Contains-append_right, Contains-push, Contains-push_cases}
 use Rattle.std.proofs.lemmas.List.Sorted.{Contains-permutation, IsPermutation-swap_remove}
 use Rattle.resolver_clause_store.specs.declared.literals.Literal.{Literal}
@@ -23,22 +23,18 @@ use Rattle.resolver_clause_store.specs.Outcomes.{IsMet}
 use Rattle.resolver_clause_store.specs.TrailView.{KeepsPlaces, length_of, literal_value, slot_of, variable_at}
 use Rattle.resolver_clause_store.proofs.KeptLemmas.{slot-back, slot_at}
 use Rattle.resolver_clause_store.proofs.LastOpenLemmas.{last-add, last-cut, last-grown, last-same, open-now}
-use Rattle.resolver_clause_store.proofs.ListLemmas.{Contains-here, Contains-there}
 use Rattle.resolver_clause_store.proofs.TrailLemmas.{value-true}
 use Rattle.resolver_clause_store.specs.declared.last_open.LastOpen.{LastOpen}
-use Rattle.resolver_clause_store.specs.declared.parked.ParkedLists.{ParkedLists}
-use Rattle.resolver_clause_store.specs.ListPools.{list_of}
+use Rattle.resolver_clause_store.specs.NumberedLists.{list_of}
 use Rattle.resolver_clause_store.specs.declared.queue.DecideQueue.{DecideQueue}
 use Rattle.resolver_clause_store.specs.Queues.{IsFollowed, IsFollowing, IsHeld, IsMetBy, IsQueued, IsInactive}
-use Rattle.resolver_clause_store.specs.Requirers.{AreRequirers, requirer_of}
-use Rattle.resolver_clause_store.specs.declared.requirers.Requirers.{Requirers}
 
 -- a requirement in a list that stays
-parked-same : (old new : ParkedLists) (variable index : ℕ) → list_of new variable ≡ list_of old variable → Contains (list_of old variable) index →
+parked-same : (old new : List (List ℕ)) (variable index : ℕ) → list_of new variable ≡ list_of old variable → Contains (list_of old variable) index →
     Contains (list_of new variable) index
 parked-same old new variable index same inside = let Inside : List ℕ → Type 0 = λ list. Contains list index in subst Inside (sym same) inside
 
-inactive-cut : (inactive : ParkedLists) (old new : Trail) (kept left : ℕ) (clause : List Literal) (index : ℕ) → left ≤ kept → KeepsPlaces old new left →
+inactive-cut : (inactive : List (List ℕ)) (old new : Trail) (kept left : ℕ) (clause : List Literal) (index : ℕ) → left ≤ kept → KeepsPlaces old new left →
     IsInactive inactive old kept clause index → IsInactive inactive new left clause index
 inactive-cut inactive old new kept left clause index less keeps w = record {
   variable = w.variable;
@@ -51,7 +47,7 @@ inactive-cut inactive old new kept left clause index less keeps w = record {
       (cases_lt slot.place left);
 }
 
-met-cut : (met : ParkedLists) (followed : List ℕ) (old new : Trail) (kept left : ℕ) (clause : List Literal) (index : ℕ) → left ≤ kept → kept ≤ length_of old →
+met-cut : (met : List (List ℕ)) (followed : List ℕ) (old new : Trail) (kept left : ℕ) (clause : List Literal) (index : ℕ) → left ≤ kept → kept ≤ length_of old →
     ((place : ℕ) → place < kept → slice_index followed place ≡ variable_at old place) → KeepsPlaces old new left → IsMetBy met old followed kept clause index →
     IsMetBy met new followed left clause index
 met-cut met followed old new kept left clause index less reached same keeps w = record {
@@ -69,7 +65,7 @@ met-cut met followed old new kept left clause index less reached same keeps w = 
       ap (option_map (λ (slot : Slot). beq slot.value true)) (now ∙ sym was) ∙ w.true_there (omega (arith, below, less));
 }
 
-held-cut : (active : List ℕ) (inactive met : ParkedLists) (followed : List ℕ) (old new : Trail) (kept left : ℕ) (clause : List Literal) (index : ℕ) →
+held-cut : (active : List ℕ) (inactive met : List (List ℕ)) (followed : List ℕ) (old new : Trail) (kept left : ℕ) (clause : List Literal) (index : ℕ) →
     left ≤ kept → kept ≤ length_of old → ((place : ℕ) → place < kept → slice_index followed place ≡ variable_at old place) → KeepsPlaces old new left →
     IsHeld active inactive met followed kept old clause index → IsHeld active inactive met followed left new clause index
 held-cut active inactive met followed old new kept left clause index less reached same keeps held = ⊎_elim
@@ -80,47 +76,18 @@ held-cut active inactive met followed old new kept left clause index less reache
     rest)
     held
 
--- the requirers stay
-requirers-same : (old new : Requirers) (table : List (List Literal)) (requirements : List StoredRequirement) → new ≡ old → AreRequirers old table requirements →
-    AreRequirers new table requirements
-requirers-same old new table requirements same are = let Are : Requirers → Type 0 = λ r. AreRequirers r table requirements in subst Are (sym same) are
-
-requirers-grown : (it : Requirers) (table more : List (List Literal)) (requirements : List StoredRequirement) →
-    All (λ (r : StoredRequirement). r.number < length table) requirements →
-    ((number : ℕ) → number < length table → clause_at more number ≡ clause_at table number) → AreRequirers it table requirements →
-    AreRequirers it more requirements
-requirers-grown it table more requirements inside same are = record {
-  each = λ index variable d below is.
-      let Asks : List Literal → Type 0 = λ clause. Contains clause (record { variable = variable; positive = false }) in
-      subst Asks (sym (same (get_or requirements index d).number (inside index d below))) (are.each index variable d below is);
-  none = are.none;
-}
-
-requirers-add : (it : Requirers) (table : List (List Literal)) (requirements : List StoredRequirement) (requirement : StoredRequirement) →
-    AreRequirers it table requirements → AreRequirers it table (requirements ++ requirement ∷ [])
-requirers-add it table requirements requirement are = record {
-  each = λ index variable d below is. ⊎_elim
-      (λ (early : index < length requirements).
-      let Asks : StoredRequirement → Type 0 = λ r. Contains (clause_at table r.number) (record { variable = variable; positive = false }) in
-      subst Asks (sym (get_or-append requirements (requirement ∷ []) d index early)) (are.each index variable d early is))
-      (λ (late : length requirements ≤ index). absurd (none-some variable (sym (are.none index late) ∙ is)))
-      (cases_lt index (length requirements));
-  none = λ index late. are.none index (omega (arith, late, length-append requirements (requirement ∷ [])));
-}
-
 -- the first entries of the trail stay
 pub queued-cut : (old new : DecideQueue) (before after : Trail) (table : List (List Literal)) (requirements : List StoredRequirement) →
-    new.active.items ≡ old.active.items → new.inactive ≡ old.inactive → new.met ≡ old.met → new.requirers ≡ old.requirers →
+    new.active.items ≡ old.active.items → new.inactive ≡ old.inactive → new.met ≡ old.met →
     new.followed.items ≡ old.followed.items → new.kept ≤ old.kept → ((last : LastOpen) → new.last ≡ Some last → (old.last ≡ Some last) ×
     (last.count ≤ new.kept)) → KeepsPlaces before after new.kept → IsQueued old before table requirements → IsQueued new after table requirements
-queued-cut old new before after table requirements active inactive met requirers followed less left keeps it = record {
+queued-cut old new before after table requirements active inactive met followed less left keeps it = record {
   following = record {
     followed = omega (arith, less, it.following.followed, ap length followed);
     reached = keeps.are;
     same = λ place below. ap (λ list. slice_index list place) followed ∙ it.following.same place (omega (arith, below, less)) ∙
         sym (keeps.variables place below);
   };
-  requirers = requirers-same old.requirers new.requirers table requirements requirers it.requirers;
   each = λ index d below. rw (active, inactive, met, followed)
       (held-cut old.active.items old.inactive old.met old.followed.items before after old.kept new.kept _ index less it.following.reached
       it.following.same keeps (it.each index d below));
@@ -131,7 +98,7 @@ queued-cut old new before after table requirements active inactive met requirers
 -- the same, for a queue that does not change
 pub queued-kept : (it : DecideQueue) (before after : Trail) (table : List (List Literal)) (requirements : List StoredRequirement) →
     KeepsPlaces before after it.kept → IsQueued it before table requirements → IsQueued it after table requirements
-queued-kept it before after table requirements keeps queued = queued-cut it it before after table requirements refl refl refl refl refl (omega arith)
+queued-kept it before after table requirements keeps queued = queued-cut it it before after table requirements refl refl refl refl (omega arith)
     (λ last is. (is, (queued.last last is).count)) keeps queued
 
 -- the queue follows the trail while what it has followed stays
@@ -145,12 +112,11 @@ following-same old new trail followed kept it = record {
 
 -- other parts of the queue change
 pub queued-same : (old new : DecideQueue) (trail : Trail) (table : List (List Literal)) (requirements : List StoredRequirement) →
-    new.active.items ≡ old.active.items → new.inactive ≡ old.inactive → new.met ≡ old.met → new.requirers ≡ old.requirers →
+    new.active.items ≡ old.active.items → new.inactive ≡ old.inactive → new.met ≡ old.met →
     new.followed.items ≡ old.followed.items → new.kept ≡ old.kept → new.last ≡ old.last → IsQueued old trail table requirements →
     IsQueued new trail table requirements
-queued-same old new trail table requirements active inactive met requirers followed kept last it = record {
+queued-same old new trail table requirements active inactive met followed kept last it = record {
   following = following-same old new trail followed kept it.following;
-  requirers = requirers-same old.requirers new.requirers table requirements requirers it.requirers;
   each = λ index d below. rw (active, inactive, met, followed, kept) (it.each index d below);
   last = last-same old.last new.last old.kept new.kept trail table requirements last (omega (arith, kept)) it.last;
 }
@@ -162,7 +128,6 @@ pub queued-grown : (it : DecideQueue) (trail : Trail) (table more : List (List L
     IsQueued it trail more requirements
 queued-grown it trail table more requirements inside same queued = record {
   following = queued.following;
-  requirers = requirers-grown it.requirers table more requirements inside same queued.requirers;
   each = λ index d below.
       let Held : List Literal → Type 0 = λ clause. IsHeld it.active.items it.inactive it.met it.followed.items it.kept trail clause index in
       subst Held (sym (same (get_or requirements index d).number (inside index d below))) (queued.each index d below);
@@ -185,13 +150,12 @@ last-found trail table requirements d last kept count inside first all = record 
 }
 
 pub queued-open : (old new : DecideQueue) (trail : Trail) (table : List (List Literal)) (requirements : List StoredRequirement) (d : StoredRequirement)
-    (last : LastOpen) → new.active.items ≡ old.active.items → new.inactive ≡ old.inactive → new.met ≡ old.met → new.requirers ≡ old.requirers →
+    (last : LastOpen) → new.active.items ≡ old.active.items → new.inactive ≡ old.inactive → new.met ≡ old.met →
     new.followed.items ≡ old.followed.items → new.kept ≡ old.kept → new.last ≡ Some last → last.count ≡ length_of trail →
     last.requirement < length requirements → IsFirst trail (clause_at table (get_or requirements last.requirement d).number) last.first →
     old.kept ≡ length_of trail → IsQueued old trail table requirements → IsQueued new trail table requirements
-queued-open old new trail table requirements d last active inactive met requirers followed kept found count inside first all it = record {
+queued-open old new trail table requirements d last active inactive met followed kept found count inside first all it = record {
   following = following-same old new trail followed kept it.following;
-  requirers = requirers-same old.requirers new.requirers table requirements requirers it.requirers;
   each = λ index d below. rw (active, inactive, met, followed, kept) (it.each index d below);
   last = λ one is.
       let Last : LastOpen → Type 0 = λ x. IsLastOpen x new.kept trail table requirements in
@@ -199,7 +163,7 @@ queued-open old new trail table requirements d last active inactive met requirer
 }
 
 -- more active requirements
-held-more : (active more : List ℕ) (inactive met : ParkedLists) (followed : List ℕ) (kept : ℕ) (trail : Trail) (clause : List Literal) (index : ℕ) →
+held-more : (active more : List ℕ) (inactive met : List (List ℕ)) (followed : List ℕ) (kept : ℕ) (trail : Trail) (clause : List Literal) (index : ℕ) →
     IsHeld active inactive met followed kept trail clause index → IsHeld (active ++ more) inactive met followed kept trail clause index
 held-more active more inactive met followed kept trail clause index held =
     ⊎_elim (λ (here : Contains active index). inl (Contains-append_left active more index here)) (λ rest. inr rest) held
@@ -207,12 +171,10 @@ held-more active more inactive met followed kept trail clause index held =
 -- a requirement after the others
 pub queued-add : (old new : DecideQueue) (trail : Trail) (table : List (List Literal)) (requirements : List StoredRequirement)
     (requirement : StoredRequirement) (last : ℕ) → last ≡ length requirements → new.active.items ≡ old.active.items ++ last ∷ [] → new.inactive ≡ old.inactive →
-    new.met ≡ old.met → new.requirers ≡ old.requirers → new.followed.items ≡ old.followed.items → new.kept ≡ old.kept → new.last ≡ old.last →
+    new.met ≡ old.met → new.followed.items ≡ old.followed.items → new.kept ≡ old.kept → new.last ≡ old.last →
     IsQueued old trail table requirements → IsQueued new trail table (requirements ++ requirement ∷ [])
-queued-add old new trail table requirements requirement last end active inactive met requirers followed kept last_same it = record {
+queued-add old new trail table requirements requirement last end active inactive met followed kept last_same it = record {
   following = following-same old new trail followed kept it.following;
-  requirers = requirers-add new.requirers table requirements requirement
-      (requirers-same old.requirers new.requirers table requirements requirers it.requirers);
   each = λ index d below. rw (active, inactive, met, followed, kept) (⊎_elim
       (λ (early : index < length requirements).
       let Held : StoredRequirement → Type 0 =
@@ -232,9 +194,9 @@ queued-add old new trail table requirements requirement last end active inactive
 pub queued-forget : (old new : DecideQueue) (trail : Trail) (table : List (List Literal)) (requirements : List StoredRequirement) (variable : ℕ) →
     old.kept < length old.followed.items → old.followed.items ≡ new.followed.items ++ variable ∷ [] → new.active.items ≡ old.active.items ++
     list_of old.met variable → ((v : ℕ) → v ≢ variable → list_of new.met v ≡ list_of old.met v) → new.inactive ≡ old.inactive →
-    new.requirers ≡ old.requirers → new.kept ≡ old.kept → new.last ≡ old.last → IsQueued old trail table requirements →
+    new.kept ≡ old.kept → new.last ≡ old.last → IsQueued old trail table requirements →
     IsQueued new trail table requirements
-queued-forget old new trail table requirements variable more followed active others inactive requirers kept last_same it =
+queued-forget old new trail table requirements variable more followed active others inactive kept last_same it =
     let longer : length old.followed.items ≡ length new.followed.items + 1 = ap length followed ∙ length-append new.followed.items (variable ∷ []) in
     let read : (place : ℕ) → place < length new.followed.items → slice_index new.followed.items place ≡ slice_index old.followed.items place = λ place below.
     sym (ap (λ list. slice_index list place) followed ∙ get_or-append new.followed.items (variable ∷ []) 0 place below) in
@@ -246,7 +208,6 @@ queued-forget old new trail table requirements variable more followed active oth
         reached = omega (arith, kept, it.following.reached);
         same = λ place below. read place (omega (arith, below, kept, more, longer)) ∙ it.following.same place (omega (arith, below, kept));
       };
-      requirers = requirers-same old.requirers new.requirers table requirements requirers it.requirers;
       each = λ index d below. rw (active, inactive, kept) (⊎_elim
           (λ (here : Contains old.active.items index). inl (Contains-append_left old.active.items (list_of old.met variable) index here))
           (λ rest. ⊎_elim
@@ -280,13 +241,13 @@ queued-forget old new trail table requirements variable more followed active oth
 -- the next place is followed
 pub queued-follow : (old new : DecideQueue) (trail : Trail) (table : List (List Literal)) (requirements : List StoredRequirement) (variable : ℕ) →
     length old.followed.items ≡ old.kept → old.kept < length_of trail → variable ≡ variable_at trail old.kept → new.followed.items ≡ old.followed.items ++
-    variable ∷ [] → new.kept ≡ old.kept + 1 → new.met ≡ old.met → new.requirers ≡ old.requirers →
+    variable ∷ [] → new.kept ≡ old.kept + 1 → new.met ≡ old.met →
     ((index : ℕ) → Contains old.active.items index → Contains new.active.items index) →
     ((v : ℕ) → v ≢ variable → list_of new.inactive v ≡ list_of old.inactive v) →
     ((index : ℕ) → Contains (list_of old.inactive variable) index → Contains new.active.items index ⊎
     (Contains (list_of new.inactive variable) index × ((slot : Slot) → slot_of trail variable ≡ Some slot → slot.value ≡ true → ⊥))) →
     new.last ≡ old.last → IsQueued old trail table requirements → IsQueued new trail table requirements
-queued-follow old new trail table requirements variable all inside next followed kept met requirers active others here last_same it =
+queued-follow old new trail table requirements variable all inside next followed kept met active others here last_same it =
     let longer : length new.followed.items ≡ length old.followed.items + 1 = ap length followed ∙ length-append old.followed.items (variable ∷ []) in
     let read : (place : ℕ) → place < old.kept → slice_index new.followed.items place ≡ slice_index old.followed.items place = λ place below.
     ap (λ list. slice_index list place) followed ∙ get_or-append old.followed.items (variable ∷ []) 0 place (omega (arith, below, all)) in
@@ -310,7 +271,6 @@ queued-follow old new trail table requirements variable all inside next followed
             ap (λ p. slice_index new.followed.items p) at ∙ last ∙ next ∙ ap (λ p. variable_at trail p) (sym at))
             (cases_lt place old.kept);
       };
-      requirers = requirers-same old.requirers new.requirers table requirements requirers it.requirers;
       each = λ index d below. ⊎_elim
           (λ (there : Contains old.active.items index). inl (active index there))
           (λ rest. ⊎_elim
@@ -334,7 +294,7 @@ queued-follow old new trail table requirements variable all inside next followed
           (λ (w : IsMetBy old.met trail old.followed.items old.kept (clause_at table (get_or requirements index d).number) index).
           let before : w.place < old.kept = omega (arith, w.within, all) in
           let further : w.place < length new.followed.items = omega (arith, w.within, longer) in
-          let Met : ParkedLists → Type 0 =
+          let Met : List (List ℕ) → Type 0 =
           λ parked. IsMetBy parked trail new.followed.items new.kept (clause_at table (get_or requirements index d).number) index in
           inr (inr (subst Met (sym met) (record {
             variable = w.variable;
@@ -361,16 +321,15 @@ left-or xs place x inside is y there = ⊎_elim
 
 -- one requirement moved within the queue
 pub queued-settled : (old new : DecideQueue) (trail : Trail) (table : List (List Literal)) (requirements : List StoredRequirement) (settled : ℕ) →
-    new.followed.items ≡ old.followed.items → new.kept ≡ old.kept → AreRequirers new.requirers table requirements →
+    new.followed.items ≡ old.followed.items → new.kept ≡ old.kept →
     ((index : ℕ) → Contains old.active.items index → (settled ≡ index) ⊎ Contains new.active.items index) →
     ((v index : ℕ) → Contains (list_of old.inactive v) index → Contains (list_of new.inactive v) index) →
     ((v index : ℕ) → Contains (list_of old.met v) index → Contains (list_of new.met v) index) →
     ((d : StoredRequirement) → settled < length requirements →
     IsHeld new.active.items new.inactive new.met new.followed.items new.kept trail (clause_at table (get_or requirements settled d).number) settled) →
     new.last ≡ old.last → IsQueued old trail table requirements → IsQueued new trail table requirements
-queued-settled old new trail table requirements settled followed kept requirers active inactive met here last it = record {
+queued-settled old new trail table requirements settled followed kept active inactive met here last it = record {
   following = following-same old new trail followed kept it.following;
-  requirers = requirers;
   each = λ index d below. ⊎_elim
       (λ (there : Contains old.active.items index). ⊎_elim
       (λ (is : settled ≡ index).
@@ -402,80 +361,6 @@ queued-settled old new trail table requirements settled followed kept requirers 
   last = last-same old.last new.last old.kept new.kept trail table requirements last (omega (arith, kept)) it.last;
 }
 
--- the elements of a list behind its first one
-first-or : (x : ℕ) (xs : List ℕ) (y : ℕ) → Contains (x ∷ xs) y → (x ≡ y) ⊎ Contains xs y
-first-or x xs y there = ⊎_elim
-    (λ (first : Contains (x ∷ []) y).
-    ⊎_elim (λ (none : Contains [] y). absurd (omega (arith, none.1))) (λ (same : x ≡ y). inl same) (Contains-push_cases [] x y first))
-    (λ (later : Contains xs y). inr later)
-    (Contains-append_cases (x ∷ []) xs y there)
-
--- the first requirement that a candidate met was taken back
-pub queued-taken : (old new : DecideQueue) (trail : Trail) (table : List (List Literal)) (requirements : List StoredRequirement) (candidate number : ℕ) →
-    list_of old.met candidate ≡ number ∷ list_of new.met candidate → ((v : ℕ) → v ≢ candidate → list_of new.met v ≡ list_of old.met v) →
-    new.requirers ≡ old.requirers → new.followed.items ≡ old.followed.items → new.kept ≡ old.kept →
-    ((index : ℕ) → Contains old.active.items index → Contains new.active.items index) →
-    ((v index : ℕ) → Contains (list_of old.inactive v) index → Contains (list_of new.inactive v) index) →
-    ((d : StoredRequirement) → number < length requirements →
-    Contains new.active.items number ⊎ IsInactive new.inactive trail new.kept (clause_at table (get_or requirements number d).number) number) →
-    new.last ≡ old.last → IsQueued old trail table requirements → IsQueued new trail table requirements
-queued-taken old new trail table requirements candidate number taken others requirers followed kept active inactive here last it = record {
-  following = following-same old new trail followed kept it.following;
-  requirers = requirers-same old.requirers new.requirers table requirements requirers it.requirers;
-  each = λ index d below. ⊎_elim
-      (λ (there : Contains old.active.items index). inl (active index there))
-      (λ rest. ⊎_elim
-      (λ (w : IsInactive old.inactive trail old.kept (clause_at table (get_or requirements index d).number) index).
-      inr (inl (record {
-        variable = w.variable;
-        parked = inactive w.variable index w.parked;
-        asks = w.asks;
-        not_true = λ slot at is_so. let late = w.not_true slot at is_so in omega (arith, late, kept);
-      })))
-      (λ (w : IsMetBy old.met trail old.followed.items old.kept (clause_at table (get_or requirements index d).number) index).
-      let Inside : List ℕ → Type 0 = λ list. Contains list index in
-      let stays : Contains (list_of new.met w.variable) index →
-      IsHeld new.active.items new.inactive new.met new.followed.items new.kept trail (clause_at table (get_or requirements index d).number) index =
-      λ parked. inr (inr (record {
-        variable = w.variable;
-        parked = parked;
-        has = w.has;
-        place = w.place;
-        within = omega (arith, w.within, ap length followed);
-        is = ap (λ list. slice_index list w.place) followed ∙ w.is;
-        true_there = λ less. w.true_there (omega (arith, less, kept));
-      })) in
-      ⊎_elim
-      (λ (is : w.variable ≡ candidate). ⊎_elim
-      (λ (same : number ≡ index).
-      let Back : ℕ → Type 0 = λ i.
-      Contains new.active.items i ⊎ IsInactive new.inactive trail new.kept (clause_at table (get_or requirements i d).number) i in
-      ⊎_elim
-      (λ (back : Contains new.active.items index). inl back)
-      (λ (back : IsInactive new.inactive trail new.kept (clause_at table (get_or requirements index d).number) index). inr (inl back))
-      (subst Back same (here d (omega (arith, below, same)))))
-      (λ (later : Contains (list_of new.met candidate) index). stays (subst Inside (ap (λ v. list_of new.met v) (sym is)) later))
-      (first-or number (list_of new.met candidate) index (subst Inside (ap (λ v. list_of old.met v) is ∙ taken) w.parked)))
-      (λ (differs : w.variable ≢ candidate). stays (parked-same old.met new.met w.variable index (others w.variable differs) w.parked))
-      (cases_eq w.variable candidate))
-      rest)
-      (it.each index d below);
-  last = last-same old.last new.last old.kept new.kept trail table requirements last (omega (arith, kept)) it.last;
-}
-
--- a requirement was put aside for a variable that was noted for it
-pub taken-inactive : (old inactive : ParkedLists) (requirers : Requirers) (kept : ℕ) (trail : Trail) (table : List (List Literal))
-    (requirements : List StoredRequirement) (number variable : ℕ) → list_of inactive variable ≡ number ∷ list_of old variable →
-    requirer_of requirers number ≡ Some variable → ((slot : Slot) → slot_of trail variable ≡ Some slot → slot.value ≡ true → kept ≤ slot.place) →
-    AreRequirers requirers table requirements → (d : StoredRequirement) → number < length requirements →
-    IsInactive inactive trail kept (clause_at table (get_or requirements number d).number) number
-taken-inactive old inactive requirers kept trail table requirements number variable here known late are d inside = record {
-  variable = variable;
-  parked = let Inside : List ℕ → Type 0 = λ list. Contains list number in subst Inside (sym here) (Contains-here number (list_of old variable));
-  asks = are.each number variable d inside known;
-  not_true = late;
-}
-
 -- a list from which the last element was taken
 pub popped : (xs ys : List ℕ) (x n : ℕ) → length xs ≡ suc n → ys ≡ take n xs → x ≡ get_or xs n x → xs ≡ ys ++ x ∷ []
 popped xs ys x n size is last =
@@ -489,38 +374,20 @@ clause-read : (table : List (List Literal)) (requirements : List StoredRequireme
 clause-read table requirements index d r literals inside is at = at ∙
     ap (λ (q : StoredRequirement). clause_at table q.number) (is ∙ get_or_default requirements index r d inside)
 
--- a variable was noted for a requirement whose clause negates it
-pub requirers-noted : (old new : Requirers) (table : List (List Literal)) (requirements : List StoredRequirement) (r : StoredRequirement)
-    (literals : List Literal) (index variable : ℕ) → index < length requirements → r ≡ get_or requirements index r → literals ≡ clause_at table r.number →
-    Contains literals (record { variable = variable; positive = false }) → requirer_of new index ≡ Some variable →
-    ((other : ℕ) → other ≢ index → requirer_of new other ≡ requirer_of old other) → AreRequirers old table requirements → AreRequirers new table requirements
-requirers-noted old new table requirements r literals index variable inside is at asks here others are = record {
-  each = λ other v d below known. ⊎_elim
-      (λ (same : other ≡ index).
-      let named : variable ≡ v = same_Some _ _ (sym here ∙ ap (λ i. requirer_of new i) (sym same) ∙ known) in
-      let Asks : ℕ → Type 0 = λ w. Contains (clause_at table (get_or requirements other d).number) (record { variable = w; positive = false }) in
-      let Clause : List Literal → Type 0 = λ clause. Contains clause (record { variable = variable; positive = false }) in
-      let At : ℕ → Type 0 = λ i. Contains (clause_at table (get_or requirements i d).number) (record { variable = variable; positive = false }) in
-      subst Asks named (subst At (sym same) (subst Clause (clause-read table requirements index d r literals inside is at) asks)))
-      (λ (differs : other ≢ index). are.each other v d below (sym (others other differs) ∙ known))
-      (cases_eq other index);
-  none = λ other late. others other (λ same. absurd (omega (arith, same, late, inside))) ∙ are.none other late;
-}
-
 -- an element was added to a list, and the others stay
-pub parked-more : (old new : ParkedLists) (variable last : ℕ) → list_of new variable ≡ last ∷ list_of old variable →
+pub parked-more : (old new : List (List ℕ)) (variable last : ℕ) → list_of new variable ≡ list_of old variable ++ last ∷ [] →
     ((v : ℕ) → v ≢ variable → list_of new v ≡ list_of old v) → (v index : ℕ) → Contains (list_of old v) index → Contains (list_of new v) index
 parked-more old new variable last here others v index inside = ⊎_elim
     (λ (is : v ≡ variable).
     let Inside : List ℕ → Type 0 = λ list. Contains list index in
     subst Inside (sym (ap (λ w. list_of new w) is ∙ here))
-    (Contains-there last (list_of old variable) index (subst Inside (ap (λ w. list_of old w) is) inside)))
+    (Contains-append_left (list_of old variable) (last ∷ []) index (subst Inside (ap (λ w. list_of old w) is) inside)))
     (λ (differs : v ≢ variable). parked-same old new v index (others v differs) inside)
     (cases_eq v variable)
 
-pub parked-last : (old new : ParkedLists) (variable last : ℕ) → list_of new variable ≡ last ∷ list_of old variable → Contains (list_of new variable) last
+pub parked-last : (old new : List (List ℕ)) (variable last : ℕ) → list_of new variable ≡ list_of old variable ++ last ∷ [] → Contains (list_of new variable) last
 parked-last old new variable last here = let Inside : List ℕ → Type 0 = λ list. Contains list last in
-    subst Inside (sym here) (Contains-here last (list_of old variable))
+    subst Inside (sym here) (Contains-push (list_of old variable) last)
 
 -- a variable that is not true
 pub not-true : (trail : Trail) (variable kept : ℕ) → (literal_value trail (record { variable = variable; positive = false }) ≢ Some false) → (slot : Slot) →
@@ -528,7 +395,7 @@ pub not-true : (trail : Trail) (variable kept : ℕ) → (literal_value trail (r
 not-true trail variable kept other slot at is_so = absurd (other (ap (option_map (λ (s : Slot). beq s.value false)) at ∙ ap (λ b. Some (beq b false)) is_so))
 
 -- a requirement is met by a candidate whose place was followed
-met-here : (met : ParkedLists) (trail : Trail) (followed : List ℕ) (kept : ℕ) (clause : List Literal) (index variable : ℕ) →
+met-here : (met : List (List ℕ)) (trail : Trail) (followed : List ℕ) (kept : ℕ) (clause : List Literal) (index variable : ℕ) →
     ((place : ℕ) → place < kept → slice_index followed place ≡ variable_at trail place) → kept ≡ length_of trail → length followed ≡ kept →
     Contains (list_of met variable) index → Contains clause (record { variable = variable; positive = true }) →
     literal_value trail (record { variable = variable; positive = true }) ≡ Some true → IsMetBy met trail followed kept clause index
@@ -554,9 +421,9 @@ left-read xs new place x taken inside read is same y there = ⊎_elim
     (left-or xs place taken inside is y there)
 
 -- a requirement that became inactive
-pub held-inactive : (active : List ℕ) (old inactive met : ParkedLists) (followed : List ℕ) (kept : ℕ) (trail : Trail) (table : List (List Literal))
+pub held-inactive : (active : List ℕ) (old inactive met : List (List ℕ)) (followed : List ℕ) (kept : ℕ) (trail : Trail) (table : List (List Literal))
     (requirements : List StoredRequirement) (r : StoredRequirement) (literals : List Literal) (index variable : ℕ) →
-    list_of inactive variable ≡ index ∷ list_of old variable → r ≡ get_or requirements index r → literals ≡ clause_at table r.number →
+    list_of inactive variable ≡ list_of old variable ++ index ∷ [] → r ≡ get_or requirements index r → literals ≡ clause_at table r.number →
     Contains literals (record { variable = variable; positive = false }) ×
     (literal_value trail (record { variable = variable; positive = false }) ≢ Some false) → (d : StoredRequirement) → index < length requirements →
     IsHeld active inactive met followed kept trail (clause_at table (get_or requirements index d).number) index
@@ -569,10 +436,10 @@ held-inactive active old inactive met followed kept trail table requirements r l
       not_true = not-true trail variable kept standing.1;
     }))
 
-pub held-by_candidate : (active : List ℕ) (inactive old met : ParkedLists) (followed : List ℕ) (kept : ℕ) (trail : Trail) (table : List (List Literal))
+pub held-by_candidate : (active : List ℕ) (inactive old met : List (List ℕ)) (followed : List ℕ) (kept : ℕ) (trail : Trail) (table : List (List Literal))
     (requirements : List StoredRequirement) (r : StoredRequirement) (literals : List Literal) (index variable : ℕ) →
     ((place : ℕ) → place < kept → slice_index followed place ≡ variable_at trail place) → kept ≡ length_of trail → length followed ≡ kept →
-    list_of met variable ≡ index ∷ list_of old variable → r ≡ get_or requirements index r → literals ≡ clause_at table r.number →
+    list_of met variable ≡ list_of old variable ++ index ∷ [] → r ≡ get_or requirements index r → literals ≡ clause_at table r.number →
     Contains literals (record { variable = variable; positive = true }) × (literal_value trail (record { variable = variable; positive = true }) ≡ Some true) →
     (d : StoredRequirement) → index < length requirements →
     IsHeld active inactive met followed kept trail (clause_at table (get_or requirements index d).number) index
@@ -601,7 +468,7 @@ unmet-not trail clause variable (Some slot) at asks never =
     not-yes true never = absurd (never refl)
     not-yes false never = refl
 
-pub held-met : (active : List ℕ) (inactive met : ParkedLists) (followed : List ℕ) (kept : ℕ) (trail : Trail) (clause : List Literal) (index : ℕ) →
+pub held-met : (active : List ℕ) (inactive met : List (List ℕ)) (followed : List ℕ) (kept : ℕ) (trail : Trail) (clause : List Literal) (index : ℕ) →
     length active ≡ 0 → kept ≡ length_of trail → length followed ≡ kept → IsHeld active inactive met followed kept trail clause index → IsMet trail clause
 held-met active inactive met followed kept trail clause index none all exact held = ⊎_elim
     (λ (here : Contains active index). absurd (omega (arith, here.1, none)))

@@ -19,7 +19,7 @@ use Rattle.resolver_clause_store.specs.Unsatisfied.{IsFirstUnsatisfied, IsNextUn
 use Rattle.resolver_clause_store.specs.declared.placed_watch.PlacedWatch.{PlacedWatch}
 use Rattle.resolver_clause_store.specs.declared.watches.Watch.{Watch}
 use Rattle.resolver_clause_store.specs.declared.pairs.WatchedPair.{WatchedPair}
-use Rattle.resolver_clause_store.specs.ListPools.{PutsList}
+use Rattle.resolver_clause_store.specs.NumberedLists.{PutsList}
 use Rattle.resolver_clause_store.specs.Watches.{FitClauses, FitsClause, IsPair, IsWatched, IsWatching, MovesWatch, SameClauses, entry_count, is_literal}
 use Rattle.resolver_clause_store.specs.Watches.{is_watched, list_at, list_number, no_watch, pair_at, pair_count, replaced, same, stands_in, unwatched, watch_at, with_blocker}
 use Rattle.resolver_clause_store.proofs.BoolLemmas.{beq-itself, beq-true}

@@ -1,9 +1,17 @@
--- Numbered lists that only grow.
-use Rattle.std.specs.Prelude.{ℕ, List}
-use Rattle.resolver_clause_store.specs.ListPools.{list_of as pooled}
-use Rattle.resolver_clause_store.specs.ListPoolsView.{lists_in}
-use Rattle.resolver_clause_store.specs.declared.lists.Lists.{Lists}
+-- Numbered lists.
+use Rattle.std.specs.Prelude.{◌≡◌, ◌≢◌, ℕ, List, [], Vec, length, map, slice_index_or}
+use Rattle.std.specs.declared.alloc.Global.{Global}
 
--- the list with this number
-abbrev pub list_of : Lists → ℕ → List ℕ
-list_of it number = pooled (lists_in it.lists) number
+-- the items of lists
+abbrev pub items_of : {T : Type 0} → List (Vec T Global) → List (List T)
+items_of {T} lists = map (λ (list : Vec T Global). list.items) lists
+
+-- the list with this number, empty if there is none
+abbrev pub list_of : {T : Type 0} → List (List T) → ℕ → List T
+list_of lists number = slice_index_or lists number []
+
+-- one list was replaced
+pub record PutsList {T : Type 0} (old new : List (List T)) (list : ℕ) (items : List T) : Type 0 where
+  pub size : length new ≡ length old
+  pub here : list_of new list ≡ items
+  pub others : (other : ℕ) → other ≢ list → list_of new other ≡ list_of old other

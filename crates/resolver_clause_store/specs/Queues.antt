@@ -6,16 +6,14 @@ use Rattle.resolver_clause_store.specs.declared.trail.Slot.{Slot}
 use Rattle.resolver_clause_store.specs.declared.trail.Trail.{Trail}
 use Rattle.resolver_clause_store.specs.Formula.{clause_at}
 use Rattle.resolver_clause_store.specs.TrailView.{length_of, literal_value, slot_of, variable_at}
-use Rattle.resolver_clause_store.specs.declared.parked.ParkedLists.{ParkedLists}
-use Rattle.resolver_clause_store.specs.ListPools.{list_of}
-use Rattle.resolver_clause_store.specs.Requirers.{AreRequirers}
+use Rattle.resolver_clause_store.specs.NumberedLists.{list_of}
 use Rattle.resolver_clause_store.specs.LastOpens.{IsLastOpen}
 use Rattle.resolver_clause_store.specs.declared.last_open.LastOpen.{LastOpen}
 use Rattle.resolver_clause_store.specs.declared.queue.DecideQueue.{DecideQueue}
 
 -- The requirement with this index is put aside for a variable that its clause negates, and that is not true at an
 -- unchanged place.
-pub record IsInactive (inactive : ParkedLists) (trail : Trail) (kept : ℕ) (clause : List Literal) (index : ℕ) : Type 0 where
+pub record IsInactive (inactive : List (List ℕ)) (trail : Trail) (kept : ℕ) (clause : List Literal) (index : ℕ) : Type 0 where
   pub variable : ℕ
   pub parked : Contains (list_of inactive variable) index
   pub asks : Contains clause (record { variable = variable; positive = false })
@@ -23,7 +21,7 @@ pub record IsInactive (inactive : ParkedLists) (trail : Trail) (kept : ℕ) (cla
 
 -- The requirement with this index has a candidate that was true when its place was followed, and is still true if that
 -- place is unchanged.
-pub record IsMetBy (met : ParkedLists) (trail : Trail) (followed : List ℕ) (kept : ℕ) (clause : List Literal) (index : ℕ) : Type 0 where
+pub record IsMetBy (met : List (List ℕ)) (trail : Trail) (followed : List ℕ) (kept : ℕ) (clause : List Literal) (index : ℕ) : Type 0 where
   pub variable : ℕ
   pub parked : Contains (list_of met variable) index
   pub has : Contains clause (record { variable = variable; positive = true })
@@ -33,7 +31,7 @@ pub record IsMetBy (met : ParkedLists) (trail : Trail) (followed : List ℕ) (ke
   pub true_there : place < kept → literal_value trail (record { variable = variable; positive = true }) ≡ Some true
 
 -- The requirement with this index is active, inactive, or met.
-abbrev pub IsHeld : List ℕ → ParkedLists → ParkedLists → List ℕ → ℕ → Trail → List Literal → ℕ → Type 0
+abbrev pub IsHeld : List ℕ → List (List ℕ) → List (List ℕ) → List ℕ → ℕ → Trail → List Literal → ℕ → Type 0
 IsHeld active inactive met followed kept trail clause index =
     Contains active index ⊎ (IsInactive inactive trail kept clause index ⊎ IsMetBy met trail followed kept clause index)
 
@@ -43,11 +41,10 @@ pub record IsFollowing (queue : DecideQueue) (trail : Trail) : Type 0 where
   pub reached : queue.kept ≤ length_of trail
   pub same : (place : ℕ) → place < queue.kept → slice_index queue.followed.items place ≡ variable_at trail place
 
--- The queue follows the trail, each requirement is in one of its lists, the requirers that are known are right, and the requirement that was last
--- found left to decide was so.
+-- The queue follows the trail, each requirement is in one of its lists, and the requirement that was last found
+-- left to decide was so.
 pub record IsQueued (queue : DecideQueue) (trail : Trail) (table : List (List Literal)) (requirements : List StoredRequirement) : Type 0 where
   pub following : IsFollowing queue trail
-  pub requirers : AreRequirers queue.requirers table requirements
   pub each : (index : ℕ) (d : StoredRequirement) → index < length requirements →
       IsHeld queue.active.items queue.inactive queue.met queue.followed.items queue.kept trail
       (clause_at table (slice_index_or requirements index d).number) index

@@ -1,20 +1,15 @@
 -- The view of a table of variables.
-use Rattle.std.specs.Prelude.{◌≡◌, ◌≤◌, ◌^◌, ℕ, List, Some, length, slice_get}
+use Rattle.std.specs.Prelude.{◌≡◌, ℕ, List, Some, length, slice_get}
 use Rattle.resolver_clause_store.specs.declared.kinds.Origin.{Origin}
 use Rattle.resolver_clause_store.specs.declared.variables.Variables.{Variables}
 
 -- what each variable stands for
 abbrev pub origins_in : {N S : Type 0} → Variables N S → List (Origin N S)
-origins_in v = v.origins.keys
+origins_in v = v.origins
 
 -- the limit on the number of variables
 abbrev pub limit_in : {N S : Type 0} → Variables N S → ℕ
 limit_in v = v.limit
-
--- the number of variables is within its limit
-pub record IsBounded {N S : Type 0} (v : Variables N S) : Type 0 where
-  pub bounded : length (origins_in v) ≤ limit_in v
-  pub small : limit_in v ≤ 2 ^ 31
 
 -- no two places have the same element
 pub record AreDistinct {X : Type 0} (xs : List X) : Type 0 where

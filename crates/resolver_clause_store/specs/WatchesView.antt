@@ -4,12 +4,11 @@ use Rattle.resolver_clause_store.specs.declared.literals.Literal.{Literal}
 use Rattle.resolver_clause_store.specs.declared.watches.Watch.{Watch}
 use Rattle.resolver_clause_store.specs.declared.pairs.WatchedPair.{WatchedPair}
 use Rattle.resolver_clause_store.specs.declared.watches.Watches.{Watches}
-use Rattle.resolver_clause_store.specs.ListPoolsView.{lists_in}
 use Rattle.resolver_clause_store.specs.Watches.{list_number}
 
 -- the fields of the struct
 abbrev pub lists_of : Watches → List (List Watch)
-lists_of watches = lists_in watches.lists
+lists_of watches = watches.lists
 
 abbrev pub pairs_of : Watches → List WatchedPair
 pairs_of watches = watches.pairs.items

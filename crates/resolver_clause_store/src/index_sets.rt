@@ -28,31 +28,6 @@ pub fn place_of<T: Eq + Hash>(set: &IndexSet<T>, member: &T) -> Option<usize>
     }
 }
 
-/// Returns the place of a member, if it is in the set. A look-up is quick if the place is the one that is guessed.
-pub fn place_near<T: Eq + Hash>(set: &IndexSet<T>, member: &T, guess: usize) -> Option<usize>
-    requires { IsIdentity T.eq }
-    ensures place { IfSome result (λ i. slice_get set.now.keys i ≡ Some member.now) }
-    ensures inside { IfSome result (λ i. i < length set.now.keys) }
-    ensures absent { IfNone result (Contains set.now.keys member.now → ⊥) }
-{
-    if is_at(set, member, guess) {
-        return Some(guess);
-    }
-    place_of(set, member)
-}
-
-/// Returns whether `member` is in the set at this place.
-pub fn is_at<T: Eq + Hash>(set: &IndexSet<T>, member: &T, place: usize) -> bool
-    requires { IsIdentity T.eq }
-    ensures value { result ≡ true → slice_get set.now.keys place ≡ Some member.now }
-    ensures inside { result ≡ true → place < length set.now.keys }
-{
-    match set.get_index(place) {
-        Some(found) => found == member,
-        None => false,
-    }
-}
-
 /// Appends a new member.
 pub fn append<T: Copy + Eq + Hash + Drop>(set: &mut IndexSet<T>, member: T) -> Result<(), Exhausted>
     requires identity { IsIdentity T.eq }

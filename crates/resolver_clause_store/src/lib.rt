@@ -12,21 +12,17 @@ mod index_sets;
 mod kinds;
 mod last_open;
 mod laws;
-mod lists;
 mod literals;
-mod long_lists;
+mod numbered_lists;
 mod numbers;
 mod owner;
 mod pairs;
-mod parked;
 mod placed_watch;
-mod pool;
 mod provider;
 mod questions;
 mod queue;
 mod ranks;
 mod requirements;
-mod requirers;
 mod rules;
 mod scores;
 mod sets;
@@ -47,18 +43,18 @@ pub use data::{
 };
 pub use decisions::Choice;
 pub use ids::{ConditionId, StringId, VersionSetId, VersionSetUnionId};
-pub use index_sets::{append, is_among, is_at, place_near, place_of};
+pub use index_sets::{append, is_among, place_of};
 pub use kinds::{ClauseKind, Disjunct, Origin};
 pub use laws::{
     a_run_over_nothing_is_its_first_answer, first_choices_are_least_closed,
     the_need_closure_is_least_closed,
 };
 pub use literals::{Literal, Variable};
+pub use numbered_lists::NumberedLists;
 pub use numbers::narrow;
 pub use owner::Owner;
 pub use pairs::WatchedPair;
 pub use placed_watch::PlacedWatch;
-pub use pool::ListPool;
 pub use provider::{DependencyProvider, Interner};
 pub use questions::check_cancel;
 pub use queue::DecideQueue;

@@ -13,18 +13,16 @@ ghost use Rattle.resolver_clause_store.specs.declared.trail.Trail.{Trail};
 ghost use Rattle.resolver_clause_store.specs.Decisions.{IsChoice, IsFirst};
 ghost use Rattle.resolver_clause_store.specs.LastOpens.{IsOpenSince};
 ghost use Rattle.resolver_clause_store.specs.Settled.{AllSettled};
-ghost use Rattle.resolver_clause_store.specs.ListPools.{list_of};
-ghost use Rattle.resolver_clause_store.specs.Requirers.{requirer_of};
+ghost use Rattle.resolver_clause_store.specs.NumberedLists.{list_of};
 
 use crate::clauses::{Clauses, StoredRequirement, clause};
 use crate::decisions::Choice;
 use crate::last_open::{LastOpen, still_open, unless_cut};
 use crate::literals::{Literal, Variable};
+use crate::numbered_lists::NumberedLists;
 use crate::numbers::narrow;
 use crate::owner::Owner;
-use crate::parked::ParkedLists;
 use crate::ranks::Ranks;
-use crate::requirers::Requirers;
 use crate::scores::Activity;
 use crate::standing::{Standing, standing_of};
 use crate::trail::Trail;
@@ -41,35 +39,19 @@ fn is_true(trail: &Trail, variable: Variable) -> bool
     }
 }
 
-/// Returns whether a variable is true, and became so at one of the first `count` places of the trail.
-fn is_true_before(trail: &Trail, variable: Variable, count: usize) -> bool
-    ensures { result ≡ false → (slot : Slot) → slot_of trail.now variable ≡ Some slot → slot.value ≡ true → count ≤ slot.place }
-{
-    if variable.index() >= trail.variable_count() {
-        return false;
-    }
-    match trail.slot(variable) {
-        Some(slot) => slot.value && (slot.place as usize) < count,
-        None => false,
-    }
-}
-
 /// The requirements that may be left to decide, and the others, which are put aside.
 ///
 /// A requirement is put aside while a variable that it depends on is not true, or while one of its candidates is true.
 /// The queue follows a trail: when a variable becomes true or loses its value, the requirements that are put aside for
-/// it come back. So the requirements that are not put aside are all that may be left to decide. A requirement that loses
-/// its candidate, and depends on a variable that is not true any more either, goes from one list to the other.
+/// it come back. So the requirements that are not put aside are all that may be left to decide.
 #[derive(Drop)]
 pub struct DecideQueue {
     /// The requirements that are not put aside.
     active: Vec<u32>,
     /// The requirements that are put aside for a variable that is not true, by that variable.
-    inactive: ParkedLists,
+    inactive: NumberedLists<u32>,
     /// The requirements that are put aside for a candidate that is true, by that candidate.
-    met: ParkedLists,
-    /// The variable that each requirement depends on, once it was put aside for it.
-    requirers: Requirers,
+    met: NumberedLists<u32>,
     /// The variables of the trail's entries that were followed.
     followed: Vec<Variable>,
     /// The number of first entries that have not changed since they were followed.
@@ -89,9 +71,8 @@ impl DecideQueue {
     {
         DecideQueue {
             active: Vec::new(alloc),
-            inactive: ParkedLists::new(alloc),
-            met: ParkedLists::new(alloc),
-            requirers: Requirers::new(alloc),
+            inactive: NumberedLists::new(alloc),
+            met: NumberedLists::new(alloc),
             followed: Vec::new(alloc),
             kept: 0,
             ranks: Ranks::new(alloc, activity),
@@ -149,80 +130,29 @@ impl DecideQueue {
         self.last = unless_cut(self.last, self.kept);
     }
 
-    /// Returns the variable that a requirement depends on, unless that is true by an unchanged entry, or is not known.
-    fn open_requirer(&self, trail: &Trail, requirement: usize) -> Option<Variable>
-        ensures { IfSome result (λ variable. (requirer_of self.now.requirers requirement ≡ Some variable) ×
-            ((slot : Slot) → slot_of trail.now variable ≡ Some slot → slot.value ≡ true → self.now.kept ≤ slot.place)) }
-    {
-        let variable = self.requirers.of(requirement)?;
-        if is_true_before(trail, variable, self.kept) {
-            return None;
-        }
-        Some(variable)
-    }
-
-    /// Takes back one of the requirements that a candidate met. It becomes inactive if what it depends on is not true any
-    /// more, and active otherwise. Returns whether there was one.
-    fn take_back_one(&mut self, trail: &Trail, candidate: Variable) -> Result<bool, AllocError>
-        ensures queued { OnOk result ((table : List (List Literal)) (requirements : List StoredRequirement) →
-            IsQueued self.old trail.now table requirements → IsQueued self.new trail.now table requirements) }
-        ensures kept { OnOk result (self.new.kept ≡ self.old.kept) }
-        ensures followed { OnOk result (self.new.followed.items ≡ self.old.followed.items) }
-        ensures more { IfOk result (λ is_one. is_one ≡ true → length (list_of self.new.met candidate) < length (list_of self.old.met candidate)) }
-        ensures none { IfOk result (λ is_one. is_one ≡ false → list_of self.new.met candidate ≡ []) }
-    {
-        let Some(number) = self.met.pop(candidate.index())? else {
-            return Ok(false);
-        };
-        match self.open_requirer(trail, number as usize) {
-            Some(requirer) => {
-                self.inactive.add(requirer.index(), number)?;
-                Ok(true)
-            }
-            None => {
-                self.active.push(number)?;
-                Ok(true)
-            }
-        }
-    }
-
-    /// Takes back the requirements that a candidate met.
-    fn take_back(&mut self, trail: &Trail, candidate: Variable) -> Result<(), AllocError>
-        ensures queued { OnOk result ((table : List (List Literal)) (requirements : List StoredRequirement) →
-            IsQueued self.old trail.now table requirements → IsQueued self.new trail.now table requirements) }
-        ensures kept { OnOk result (self.new.kept ≡ self.old.kept) }
-        ensures followed { OnOk result (self.new.followed.items ≡ self.old.followed.items) }
-        ensures none { OnOk result (list_of self.new.met candidate ≡ []) }
-    {
-        'requirements: while self.take_back_one(trail, candidate)? {}
-        Ok(())
-    }
-
     /// Forgets the last followed entry, which has changed, and takes back the requirements that its variable met.
-    fn forget_last(&mut self, trail: &Trail) -> Result<(), AllocError>
+    fn forget_last(&mut self) -> Result<(), AllocError>
         requires { self.old.kept < length self.old.followed.items }
-        ensures queued { OnOk result ((table : List (List Literal)) (requirements : List StoredRequirement) →
-            IsQueued self.old trail.now table requirements → IsQueued self.new trail.now table requirements) }
+        ensures queued { OnOk result (StaysQueued self.old self.new) }
         ensures kept { OnOk result (self.new.kept ≡ self.old.kept) }
         ensures fewer { OnOk result (length self.new.followed.items + 1 ≡ length self.old.followed.items) }
     {
         let variable = self.followed[self.followed.len() - 1];
-        self.take_back(trail, variable)?;
+        self.met.take_all(variable.index(), &mut self.active)?;
         self.followed.pop();
         self.ranks.touch(variable)?;
         Ok(())
     }
 
     /// Forgets the followed entries that have changed.
-    fn forget(&mut self, trail: &Trail) -> Result<(), AllocError>
+    fn forget(&mut self) -> Result<(), AllocError>
         requires { self.old.kept ≤ length self.old.followed.items }
-        ensures queued { OnOk result ((table : List (List Literal)) (requirements : List StoredRequirement) →
-            IsQueued self.old trail.now table requirements → IsQueued self.new trail.now table requirements) }
+        ensures queued { OnOk result (StaysQueued self.old self.new) }
         ensures kept { OnOk result (self.new.kept ≡ self.old.kept) }
         ensures all { OnOk result (length self.new.followed.items ≡ self.new.kept) }
     {
         'places: while self.followed.len() > self.kept {
-            self.forget_last(trail)?;
+            self.forget_last()?;
         }
         Ok(())
     }
@@ -241,7 +171,7 @@ impl DecideQueue {
         self.kept += 1;
         self.ranks.touch(variable)?;
         if is_true(trail, variable) {
-            self.inactive.take(variable.index(), &mut self.active)?;
+            self.inactive.take_all(variable.index(), &mut self.active)?;
             return Ok(());
         }
         Ok(())
@@ -255,7 +185,7 @@ impl DecideQueue {
         ensures followed { OnOk result (IsFollowed self.new trail.now) }
     {
         let from = self.active.len();
-        self.forget(trail)?;
+        self.forget()?;
         'places: while self.kept < trail.len() {
             self.follow_place(trail)?;
         }
@@ -336,7 +266,6 @@ impl DecideQueue {
         match standing_of(trail, literals) {
             Standing::Inactive(variable) => {
                 self.inactive.add(variable.index(), number)?;
-                self.requirers.note(index, variable)?;
                 self.active.swap_remove(place);
                 self.ranks.leave(self.active.as_slice(), place);
                 Ok(None)

@@ -9,8 +9,8 @@ ghost use Rattle.resolver_clause_store.specs.Settled.{AllSettled, IsSettled};
 use crate::clauses::{Clauses, StoredRequirement, clause};
 use crate::decisions::open_count;
 use crate::last_open::first_not_false;
-use crate::lists::Lists;
 use crate::literals::{Literal, Variable};
+use crate::numbered_lists::NumberedLists;
 use crate::numbers::narrow;
 use crate::owner::Owner;
 use crate::scores::{Activity, Scores};
@@ -182,7 +182,7 @@ pub struct Ranks {
     /// For each requirement that is a union, the places in its clause after the candidates of each version set.
     ends: UnionEnds,
     /// The requirements that have a candidate of a package, by the package's number.
-    asking: Lists,
+    asking: NumberedLists<u32>,
     /// The packages whose requirements have to be ranked again.
     touched: Vec<Touched>,
     noted: Vec<Noted>,
@@ -207,7 +207,7 @@ impl Ranks {
             learnt: 0,
             entries: Vec::new(alloc),
             ends: UnionEnds::new(alloc),
-            asking: Lists::new(alloc),
+            asking: NumberedLists::new(alloc),
             touched: Vec::new(alloc),
             noted: Vec::new(alloc),
             changes: Vec::new(alloc),

@@ -4,12 +4,13 @@ ghost use Rattle.std.specs.Prelude.{Contains, ◌≡◌, ◌<◌, ◌≤◌, ◌
 ghost use Rattle.resolver_clause_store.specs.Laws.{IsIdentity};
 
 use crate::data::Exhausted;
-use crate::index_sets::{append, is_at, place_of};
+use crate::index_sets::{append, place_of};
 use crate::kinds::Origin;
 use crate::literals::Variable;
 use indexmap::IndexSet;
 use std::alloc::Global;
 use std::hash::Hash;
+use std::marker::Model;
 
 /// The origin of each variable, by number. No two variables have the same origin.
 #[derive(Drop)]
@@ -18,13 +19,23 @@ pub struct Variables<N: Copy + Eq + Hash + Drop, S: Copy + Eq + Hash + Drop> {
     limit: usize,
 }
 
+impl<N: Copy + Eq + Hash + Drop, S: Copy + Eq + Hash + Drop> Model for Variables<N, S> {
+    ghost use Rattle.std.specs.Prelude.{◌≤◌, ◌^◌, length};
+    ghost use Rattle.resolver_clause_store.specs.KnownVariables.{KnownVariables};
+
+    ghost Value = { KnownVariables N S };
+
+    ghost view = { λ v. record { origins = v.origins.keys; limit = v.limit } };
+
+    ghost invariant = { λ v. (length v.origins.keys ≤ v.limit) × (v.limit ≤ 2 ^ 31) };
+}
+
 impl<N: Copy + Eq + Hash + Drop, S: Copy + Eq + Hash + Drop> Variables<N, S> {
-    ghost use Rattle.resolver_clause_store.specs.Variables.{AreDistinct, IsBounded, IsFull, Keeps, limit_in, origins_in};
+    ghost use Rattle.resolver_clause_store.specs.Variables.{AreDistinct, IsFull, Keeps, limit_in, origins_in};
 
     /// Creates an empty table. The limit is at most 2147483648.
     pub fn new(alloc: Global, limit: usize) -> Self
         requires { limit ≤ 2 ^ 31 }
-        ensures bounded { IsBounded result }
         ensures none { origins_in result ≡ [] }
         ensures limit { limit_in result ≡ limit }
     {
@@ -32,6 +43,13 @@ impl<N: Copy + Eq + Hash + Drop, S: Copy + Eq + Hash + Drop> Variables<N, S> {
             origins: IndexSet::new(alloc),
             limit,
         }
+    }
+
+    /// A law: there are no more variables than the limit allows.
+    pub fn are_within_limit(&self)
+        ensures { length (origins_in self.now) ≤ limit_in self.now }
+    {
+        let _ = &self.origins;
     }
 
     /// Returns the number of variables.
@@ -64,8 +82,6 @@ impl<N: Copy + Eq + Hash + Drop, S: Copy + Eq + Hash + Drop> Variables<N, S> {
     pub fn intern(&mut self, origin: Origin<N, S>) -> Result<Variable, Exhausted>
         requires names { IsIdentity N.eq }
         requires solvables { IsIdentity S.eq }
-        requires bounded { IsBounded self.old }
-        ensures bounded { IsBounded self.new }
         ensures kept { Keeps (origins_in self.old) (origins_in self.new) }
         ensures here { IfOk result (λ v. slice_get (origins_in self.new) v ≡ Some origin) }
         ensures limit { limit_in self.new ≡ limit_in self.old }
@@ -80,34 +96,11 @@ impl<N: Copy + Eq + Hash + Drop, S: Copy + Eq + Hash + Drop> Variables<N, S> {
         }
     }
 
-    /// Returns the variable of an origin like `intern`, and is quick if its number is the one that is guessed.
-    pub fn intern_near(&mut self, origin: Origin<N, S>, guess: usize) -> Result<Variable, Exhausted>
-        requires names { IsIdentity N.eq }
-        requires solvables { IsIdentity S.eq }
-        requires bounded { IsBounded self.old }
-        ensures bounded { IsBounded self.new }
-        ensures kept { Keeps (origins_in self.old) (origins_in self.new) }
-        ensures here { IfOk result (λ v. slice_get (origins_in self.new) v ≡ Some origin) }
-        ensures limit { limit_in self.new ≡ limit_in self.old }
-        ensures distinct { AreDistinct (origins_in self.old) → AreDistinct (origins_in self.new) }
-        ensures added { (origins_in self.new ≡ origins_in self.old) ⊎ (origins_in self.new ≡ origins_in self.old ++ origin ∷ []) }
-        ensures unchanged { OnErr result (origins_in self.new ≡ origins_in self.old) }
-        ensures ids { IfErr result (λ e. e ≡ Exhausted.Ids → IsFull self.new) }
-    {
-        if is_at(&self.origins, &origin, guess) {
-            return Ok(Variable::new(guess as u32));
-        }
-        let variable = self.intern(origin)?;
-        Ok(variable)
-    }
-
     /// Creates a variable.
     fn allocate(&mut self, origin: Origin<N, S>) -> Result<Variable, Exhausted>
         requires names { IsIdentity N.eq }
         requires solvables { IsIdentity S.eq }
         requires absent { Contains (origins_in self.old) origin → ⊥ }
-        requires bounded { IsBounded self.old }
-        ensures bounded { IsBounded self.new }
         ensures kept { Keeps (origins_in self.old) (origins_in self.new) }
         ensures here { IfOk result (λ v. slice_get (origins_in self.new) v ≡ Some origin) }
         ensures limit { limit_in self.new ≡ limit_in self.old }

@@ -1,18 +1,17 @@
 //! The clauses that watch each literal.
 
 ghost use Rattle.std.specs.Prelude.{◌≡◌, ◌≢◌, ℕ, ◌+◌, ◌*◌, ◌<◌, ◌≤◌, ◌++◌, ◌∷◌, [], All, IfSome, List, MatchOption, OnErr, OnOk, Some, Vec, length, slice_get, slice_set};
-ghost use Rattle.resolver_clause_store.specs.ListPools.{PutsList};
-ghost use Rattle.resolver_clause_store.specs.ListPoolsView.{lists_in};
+ghost use Rattle.resolver_clause_store.specs.NumberedLists.{PutsList};
 ghost use Rattle.resolver_clause_store.specs.declared.literals.Literal.{Literal};
 ghost use Rattle.resolver_clause_store.specs.TrailView.{variable_count};
 ghost use Rattle.resolver_clause_store.specs.Unsatisfied.{IsFirstUnsatisfied, IsNextUnsatisfied};
 ghost use Rattle.resolver_clause_store.specs.Watches.{IsWatched, list_at, list_number, watch_at, with_blocker};
 
 use crate::literals::Literal;
+use crate::numbered_lists::NumberedLists;
 use crate::numbers::narrow;
-use crate::pairs::{StoredPair, WatchedPair};
+use crate::pairs::WatchedPair;
 use crate::placed_watch::PlacedWatch;
-use crate::pool::ListPool;
 use crate::trail::Trail;
 use std::alloc::{AllocError, Global};
 
@@ -80,9 +79,9 @@ fn watch_in(watches: &[Watch], place: usize) -> Option<PlacedWatch>
 /// none.
 #[derive(Drop)]
 pub struct Watches {
-    lists: ListPool<Watch>,
-    pairs: Vec<StoredPair>,
-    ghost watched: { IsWatched (lists_in lists) pairs.items },
+    lists: NumberedLists<Watch>,
+    pairs: Vec<WatchedPair>,
+    ghost watched: { IsWatched lists pairs.items },
 }
 
 impl Watches {
@@ -98,7 +97,7 @@ impl Watches {
         ensures pairs { pairs_of result ≡ [] }
     {
         Watches {
-            lists: ListPool::new(alloc),
+            lists: NumberedLists::new(alloc),
             pairs: Vec::new(alloc),
         }
     }
@@ -129,7 +128,7 @@ impl Watches {
         requires { number < length (pairs_of self.now) }
         ensures { result ≡ pair_at (pairs_of self.now) number }
     {
-        self.pairs[number].pair()
+        self.pairs[number]
     }
 
     /// Returns the literal that a clause watches beside this one.
@@ -138,15 +137,6 @@ impl Watches {
         ensures { (other : Literal) → literal.now ≢ other → IsPair (pair_at (pairs_of self.now) number) literal.now other → result ≡ other }
     {
         self.pairs[number].other(literal)
-    }
-
-    /// Brings the list of a literal to hand, which changes no list. A long list is found sooner then.
-    pub fn bring(&mut self, literal: Literal)
-        requires { HasList self.old literal }
-        ensures lists { lists_of self.new ≡ lists_of self.old }
-        ensures pairs { pairs_of self.new ≡ pairs_of self.old }
-    {
-        self.lists.bring(list_number(literal));
     }
 
     /// Returns the clause at a place of a literal's list, if the list is that long.
@@ -197,7 +187,7 @@ impl Watches {
     {
         let number = watch.number as usize;
         self.lists.push(list_number(literal), watch)?;
-        self.pairs[number] = StoredPair::new(pair);
+        self.pairs[number] = pair;
         Ok(())
     }
 
@@ -252,10 +242,10 @@ impl Watches {
         ensures kept { (number : ℕ) → number < length (pairs_of self.old) → pair_at (pairs_of self.new) number ≡ pair_at (pairs_of self.old) number }
         ensures lists { lists_of self.new ≡ lists_of self.old }
     {
-        self.pairs.push(StoredPair::new(WatchedPair {
+        self.pairs.push(WatchedPair {
             first: None,
             second: None,
-        }))?;
+        })?;
         Ok(())
     }
 

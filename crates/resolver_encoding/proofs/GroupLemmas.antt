@@ -6,8 +6,7 @@ use Rattle.std.proofs.lemmas.Bool.{cases_eq, cases_lt}
 use Rattle.std.proofs.lemmas.Option.{same_Some, slice_get-get_or, slice_get_within}
 use Rattle.std.proofs.lemmas.List.{get_or_past}
 use Rattle.std.proofs.lemmas.List.Elements.{Contains-append_left, Contains-push, Contains-push_cases}
-use Rattle.resolver_clause_store.specs.ListPools.{PutsList, list_of}
-use Rattle.resolver_clause_store.specs.ListPoolsView.{lists_in}
+use Rattle.resolver_clause_store.specs.NumberedLists.{PutsList, list_of}
 use Rattle.resolver_clause_store.specs.Variables.{AreDistinct}
 use Rattle.resolver_encoding.specs.Groups.{AddsNamed, AreGroups, IsAt, IsNamed, group_at}
 use Rattle.resolver_encoding.specs.declared.groups.Groups.{Groups}
@@ -31,9 +30,9 @@ one-more old grown new place s end size same puts = record {
 
 module _ {N S : Type 0} (old new : Groups N S) (n : N) (s : S) where
   -- the group of a new name
-  pub opened : (Contains old.names.keys n → ⊥) → length (lists_in new.members) ≡ length (lists_in old.members) + 1 →
-      ((k : ℕ) → k < length (lists_in old.members) → group_at new.members k ≡ group_at old.members k) →
-      group_at new.members (length (lists_in old.members)) ≡ s ∷ [] → new.names.keys ≡ old.names.keys ++ n ∷ [] → AreGroups old → AddsNamed old new n s
+  pub opened : (Contains old.names.keys n → ⊥) → length new.members ≡ length old.members + 1 →
+      ((k : ℕ) → k < length old.members → group_at new.members k ≡ group_at old.members k) →
+      group_at new.members (length old.members) ≡ s ∷ [] → new.names.keys ≡ old.names.keys ++ n ∷ [] → AreGroups old → AddsNamed old new n s
   opened absent longer same_group one names sound =
       let Names : List N → ℕ → N → Type 0 = λ list k m. slice_get list k ≡ Some m in
       let Distinct : List N → Type 0 = λ list. AreDistinct list in
@@ -100,9 +99,9 @@ module _ {N S : Type 0} (old new : Groups N S) (n : N) (s : S) where
       }
 
   -- one more element in the group of a name
-  pub joined : (place : ℕ) → slice_get old.names.keys place ≡ Some n → new.names.keys ≡ old.names.keys → length (lists_in new.members) ≡ length (lists_in old.members) →
+  pub joined : (place : ℕ) → slice_get old.names.keys place ≡ Some n → new.names.keys ≡ old.names.keys → length new.members ≡ length old.members →
       ((k : ℕ) → k ≢ place → group_at new.members k ≡ group_at old.members k) →
-      (place < length (lists_in old.members) → group_at new.members place ≡ group_at old.members place ++ s ∷ []) → AreGroups old → AddsNamed old new n s
+      (place < length old.members → group_at new.members place ≡ group_at old.members place ++ s ∷ []) → AreGroups old → AddsNamed old new n s
   joined place at names count others here sound =
       let Names : List N → ℕ → N → Type 0 = λ list k m. slice_get list k ≡ Some m in
       let Distinct : List N → Type 0 = λ list. AreDistinct list in

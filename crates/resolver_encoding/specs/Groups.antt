@@ -1,18 +1,16 @@
 -- Solvables grouped by the names of their packages.
 use Rattle.std.specs.Prelude.{ℕ, ◌≡◌, ◌<◌, ◌⊎◌, List, Some, Contains, length, slice_get}
-use Rattle.resolver_clause_store.specs.ListPools.{list_of}
-use Rattle.resolver_clause_store.specs.ListPoolsView.{lists_in}
+use Rattle.resolver_clause_store.specs.NumberedLists.{list_of}
 use Rattle.resolver_clause_store.specs.Variables.{AreDistinct}
-use Rattle.resolver_clause_store.specs.declared.ListPool.{ListPool}
 use Rattle.resolver_encoding.specs.declared.groups.Groups.{Groups}
 
 -- the group at this place, empty if there is none
-abbrev pub group_at : {S : Type 0} → ListPool S → ℕ → List S
-group_at groups place = list_of (lists_in groups) place
+abbrev pub group_at : {S : Type 0} → List (List S) → ℕ → List S
+group_at groups place = list_of groups place
 
 -- each name has one group
 pub record AreGroups {N S : Type 0} (g : Groups N S) : Type 0 where
-  pub count : length (lists_in g.members) ≡ length g.names.keys
+  pub count : length g.members ≡ length g.names.keys
   pub distinct : AreDistinct g.names.keys
 
 -- the solvable is in the group of the name

@@ -1,7 +1,7 @@
 -- The view of a clause table and that of an encoding.
 use Rattle.std.specs.Prelude.{◌≡◌, map}
 use Rattle.std.specs.Option.{option_map}
-use Rattle.resolver_clause_store.specs.Variables.{IsBounded as AreBounded, limit_in, origins_in}
+use Rattle.resolver_clause_store.specs.Variables.{limit_in, origins_in}
 use Rattle.resolver_clause_store.specs.declared.RequirementClause.{RequirementClause}
 use Rattle.resolver_clause_store.specs.declared.UnionEnds.{UnionEnds}
 use Rattle.resolver_encoding.specs.Encodings.{Notes}
@@ -48,12 +48,7 @@ notes_in e = record {
 abbrev pub union_ends_in : {N S : Type 0} → Encoding N S → UnionEnds
 union_ends_in e = e.table.union_ends
 
--- the number of variables is within its limit
-abbrev pub IsBounded : {N S : Type 0} → Encoding N S → Type 0
-IsBounded e = AreBounded e.table.variables
-
--- the number of variables is within its limit, and both limits stay
+-- both limits stay
 pub record KeepsRoom {N S : Type 0} (old new : Encoding N S) : Type 0 where
-  pub bounded : IsBounded new
   pub variables : (notes_in new).variable_limit ≡ (notes_in old).variable_limit
   pub clauses : (notes_in new).clause_limit ≡ (notes_in old).clause_limit

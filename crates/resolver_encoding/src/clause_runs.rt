@@ -313,24 +313,6 @@ fn read(
     }
 }
 
-/// Returns the number of the variable of the literal at a place, or a number that no variable has.
-fn number_at(literals: &[Literal], place: usize) -> usize {
-    match literals.get(place) {
-        Some(literal) => literal.variable.index(),
-        None => usize::MAX,
-    }
-}
-
-/// Returns the numbers of the variables of the first two literals of the last clause, or numbers that no variables have.
-fn last_front_of(clauses: &Clauses) -> (usize, usize) {
-    let count = clauses.len();
-    if count == 0 {
-        return (usize::MAX, usize::MAX);
-    }
-    let literals = clause(clauses, count - 1);
-    (number_at(literals, 0), number_at(literals, 1))
-}
-
 /// Clauses by number. In contracts, they are the list of the clauses' literals.
 ///
 /// A clause of two literals, or one whose literals after the first one are of consecutive variables, takes no more than
@@ -429,41 +411,5 @@ impl ClauseRuns {
         literals.clear();
         read(&self.listed, stored, steps, literals)?;
         Ok(())
-    }
-
-    /// Does the same as `read`. If clauses are read in the order of their numbers with one guess, none of them takes long to
-    /// find. The guess may have any value at first.
-    pub fn read_near(
-        &self,
-        number: usize,
-        guess: &mut usize,
-        literals: &mut Vec<Literal>,
-    ) -> Result<(), AllocError>
-        requires { number < length self.now }
-        ensures { OnOk result (literals.new.items ≡ clause_at self.now number) }
-    {
-        let (stored, steps) = self.stored.at_near(number, guess);
-        literals.clear();
-        read(&self.listed, stored, steps, literals)?;
-        Ok(())
-    }
-
-    /// Returns the numbers of the variables of the first two literals of the last clause, or numbers that no variables have. The next
-    /// clause often begins with one of them.
-    pub(crate) fn last_front(&self) -> (usize, usize) {
-        let Some((last, steps)) = self.stored.next() else {
-            return (usize::MAX, usize::MAX);
-        };
-        let more = steps.wrapping_sub(1);
-        match last {
-            StoredClause::Row(_, first, second, _) => {
-                (first as usize, (second as usize).wrapping_add(more))
-            }
-            StoredClause::Column(_, first, second, _) => {
-                ((first as usize).wrapping_add(more), second as usize)
-            }
-            StoredClause::Span(_, _, first, second, _) => (first as usize, second as usize),
-            StoredClause::Listed(_) => last_front_of(&self.listed),
-        }
     }
 }

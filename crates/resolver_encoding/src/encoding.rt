@@ -52,12 +52,11 @@ pub struct Encoding<N: Copy + Eq + Hash + Drop, S: Copy + Eq + Hash + Drop> {
 }
 
 impl<N: Copy + Eq + Hash + Drop, S: Copy + Eq + Hash + Drop> Encoding<N, S> {
-    ghost use Rattle.resolver_encoding.specs.Notes.{IsBounded, KeepsRoom, notes_in, union_ends_in};
+    ghost use Rattle.resolver_encoding.specs.Notes.{KeepsRoom, notes_in, union_ends_in};
 
     /// Returns an encoding that has read nothing, with limits on the numbers of its variables and clauses.
     pub fn new(alloc: Global, variable_limit: usize, clause_limit: usize) -> Self
         requires { variable_limit ≤ 2 ^ 31 }
-        ensures bounded { IsBounded result }
         ensures nothing_read { IsUnread (notes_in result) }
         ensures none_exempt { (notes_in result).exempt ≡ [] }
         ensures variables { (notes_in result).variable_limit ≡ variable_limit }
@@ -84,7 +83,6 @@ impl<N: Copy + Eq + Hash + Drop, S: Copy + Eq + Hash + Drop> Encoding<N, S> {
     fn add_with(&mut self, kind: ClauseKind<N, S>, choices: &Choices<S>) -> Result<(), Exhausted>
         requires names { IsIdentity N.eq }
         requires solvables { IsIdentity S.eq }
-        requires bounded { IsBounded self.old }
         requires small { All (λ n. n < 2 ^ 63) choices.now.counts.items }
         ensures room { KeepsRoom self.old self.new }
         ensures added { OnOk result ((u : Universe N S) → choices.now.candidates.items ≡ wanted u kind →
@@ -100,7 +98,6 @@ impl<N: Copy + Eq + Hash + Drop, S: Copy + Eq + Hash + Drop> Encoding<N, S> {
     fn add(&mut self, kind: ClauseKind<N, S>) -> Result<(), Exhausted>
         requires names { IsIdentity N.eq }
         requires solvables { IsIdentity S.eq }
-        requires bounded { IsBounded self.old }
         ensures room { KeepsRoom self.old self.new }
         ensures added { OnOk result ((u : Universe N S) → wanted u kind ≡ [] → AddsKind u kind (notes_in self.old) (notes_in self.new)) }
         ensures refusal { IfErr result (IsShortage (IsFull (notes_in self.new))) }

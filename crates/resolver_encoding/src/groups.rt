@@ -4,7 +4,7 @@ ghost use Rattle.std.specs.Prelude.{◌≡◌, ◌≢◌, ◌<◌, ℕ, [], ◌�
 ghost use Rattle.resolver_clause_store.specs.Laws.{IsIdentity};
 
 use indexmap::IndexSet;
-use resolver_clause_store::{Exhausted, ListPool, append, place_near};
+use resolver_clause_store::{Exhausted, NumberedLists, append, place_of};
 use std::alloc::Global;
 use std::hash::Hash;
 
@@ -12,11 +12,10 @@ use std::hash::Hash;
 #[derive(Drop)]
 pub(crate) struct Groups<N: Copy + Eq + Hash + Drop, S: Copy + Drop> {
     names: IndexSet<N>,
-    members: ListPool<S>,
+    members: NumberedLists<S>,
 }
 
 impl<N: Copy + Eq + Hash + Drop, S: Copy + Drop> Groups<N, S> {
-    ghost use Rattle.resolver_clause_store.specs.ListPoolsView.{lists_in};
     ghost use Rattle.resolver_encoding.specs.Groups.{AddsNamed, AreGroups, IsAt, IsNamed, group_at};
 
     /// Returns no groups.
@@ -26,23 +25,8 @@ impl<N: Copy + Eq + Hash + Drop, S: Copy + Drop> Groups<N, S> {
     {
         Groups {
             names: IndexSet::new(alloc),
-            members: ListPool::new(alloc),
+            members: NumberedLists::new(alloc),
         }
-    }
-
-    /// Returns the group at a place, empty if there is none.
-    fn group(&self, place: usize) -> &[S]
-        ensures { result.now ≡ group_at self.now.members place }
-    {
-        if place < self.members.len() {
-            return self.members.at(place);
-        }
-        &[]
-    }
-
-    /// Returns the place of the group that was made last. The next solvable often belongs to it.
-    fn last_place(&self) -> usize {
-        self.names.len().wrapping_sub(1)
     }
 
     /// Returns the solvables of a name.
@@ -53,8 +37,8 @@ impl<N: Copy + Eq + Hash + Drop, S: Copy + Drop> Groups<N, S> {
         ensures each_at { (k : ℕ) (s : S) → slice_get result.now k ≡ Some s → IsAt self.now name k s }
         ensures every_at { AreGroups self.now → (k : ℕ) (s : S) → IsAt self.now name k s → slice_get result.now k ≡ Some s }
     {
-        match place_near(&self.names, &name, self.last_place()) {
-            Some(place) => self.group(place),
+        match place_of(&self.names, &name) {
+            Some(place) => self.members.at(place),
             None => &[],
         }
     }
@@ -62,9 +46,9 @@ impl<N: Copy + Eq + Hash + Drop, S: Copy + Drop> Groups<N, S> {
     /// Appends a solvable to the group at a place, if there is such a group.
     fn put(&mut self, place: usize, solvable: S) -> Result<(), Exhausted>
         ensures names { self.new.names.keys ≡ self.old.names.keys }
-        ensures count { length (lists_in self.new.members) ≡ length (lists_in self.old.members) }
+        ensures count { length self.new.members ≡ length self.old.members }
         ensures others { (k : ℕ) → k ≢ place → group_at self.new.members k ≡ group_at self.old.members k }
-        ensures here { OnOk result (place < length (lists_in self.old.members) → group_at self.new.members place ≡ group_at self.old.members place ++
+        ensures here { OnOk result (place < length self.old.members → group_at self.new.members place ≡ group_at self.old.members place ++
             solvable ∷ []) }
         ensures memory { IfErr result (λ e. e ≡ Exhausted.Memory) }
     {
@@ -95,7 +79,7 @@ impl<N: Copy + Eq + Hash + Drop, S: Copy + Drop> Groups<N, S> {
         ensures added { OnOk result (AreGroups self.old → AddsNamed self.old self.new name solvable) }
         ensures memory { IfErr result (λ e. e ≡ Exhausted.Memory) }
     {
-        match place_near(&self.names, &name, self.last_place()) {
+        match place_of(&self.names, &name) {
             Some(place) => {
                 self.put(place, solvable)?;
                 Ok(())

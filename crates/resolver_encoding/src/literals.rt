@@ -2,7 +2,7 @@
 
 ghost use Rattle.std.specs.Prelude.{◌≡◌, [], ◌∷◌, IfErr, MatchBool, OnOk, false, map, true};
 ghost use Rattle.resolver_clause_store.specs.Laws.{IsIdentity};
-ghost use Rattle.resolver_clause_store.specs.Variables.{IsBounded, IsFull as AreFull, limit_in, origins_in};
+ghost use Rattle.resolver_clause_store.specs.Variables.{IsFull as AreFull, limit_in, origins_in};
 ghost use Rattle.resolver_clause_store.specs.declared.Origin.TheVariants.{ConditionHelper, Solvable};
 ghost use Rattle.resolver_clause_store.specs.declared.By.TheVariants.{Solvable as BySolvable};
 ghost use Rattle.resolver_encoding.specs.Atoms.{atom, first_atom, front, helpers_of, origin_by};
@@ -130,50 +130,44 @@ pub(crate) fn count_of<N, S>(
         .saturating_add(candidates.len())
 }
 
-/// Appends the literal of an origin. It takes less time if the number of its variable is the one that is guessed.
+/// Appends the literal of an origin.
 fn push_literal<N: Copy + Eq + Hash + Drop, S: Copy + Eq + Hash + Drop>(
     variables: &mut Variables<N, S>,
     literals: &mut Vec<Literal>,
     origin: Origin<N, S>,
     positive: bool,
-    guess: usize,
 ) -> Result<(), Exhausted>
     requires names { IsIdentity N.eq }
     requires solvables { IsIdentity S.eq }
-    requires bounded { IsBounded variables.old }
-    ensures bounded { IsBounded variables.new }
     ensures limit { limit_in variables.new ≡ limit_in variables.old }
     ensures grows { Grows (origins_in variables.old) (origins_in variables.new) }
     ensures added { OnOk result (Adds (origins_in variables.new) literals.old.items literals.new.items (atom origin positive ∷ [])) }
     ensures refusal { IfErr result (IsShortage (AreFull variables.new)) }
 {
-    let variable = variables.intern_near(origin, guess)?;
+    let variable = variables.intern(origin)?;
     literals.push(Literal { variable, positive })?;
     Ok(())
 }
 
-/// Appends the one or two literals at the front of a clause. The guesses are of the numbers of their variables.
+/// Appends the one or two literals at the front of a clause.
 pub(crate) fn push_front<N: Copy + Eq + Hash + Drop, S: Copy + Eq + Hash + Drop>(
     variables: &mut Variables<N, S>,
     literals: &mut Vec<Literal>,
     first: (Origin<N, S>, bool),
     second: Option<(Origin<N, S>, bool)>,
-    guesses: (usize, usize),
 ) -> Result<(), Exhausted>
     requires names { IsIdentity N.eq }
     requires solvables { IsIdentity S.eq }
-    requires bounded { IsBounded variables.old }
-    ensures bounded { IsBounded variables.new }
     ensures limit { limit_in variables.new ≡ limit_in variables.old }
     ensures grows { Grows (origins_in variables.old) (origins_in variables.new) }
     ensures added { OnOk result (Adds (origins_in variables.new) literals.old.items literals.new.items (front first second)) }
     ensures refusal { IfErr result (IsShortage (AreFull variables.new)) }
 {
-    push_literal(variables, literals, first.0, first.1, guesses.0)?;
+    push_literal(variables, literals, first.0, first.1)?;
     match second {
         None => Ok(()),
         Some(second) => {
-            push_literal(variables, literals, second.0, second.1, guesses.1)?;
+            push_literal(variables, literals, second.0, second.1)?;
             Ok(())
         }
     }
@@ -187,8 +181,6 @@ pub(crate) fn push_helpers<N: Copy + Eq + Hash + Drop, S: Copy + Eq + Hash + Dro
 ) -> Result<(), Exhausted>
     requires names { IsIdentity N.eq }
     requires solvables { IsIdentity S.eq }
-    requires bounded { IsBounded variables.old }
-    ensures bounded { IsBounded variables.new }
     ensures limit { limit_in variables.new ≡ limit_in variables.old }
     ensures grows { Grows (origins_in variables.old) (origins_in variables.new) }
     ensures added { OnOk result (Adds (origins_in variables.new) literals.old.items literals.new.items
@@ -201,24 +193,9 @@ pub(crate) fn push_helpers<N: Copy + Eq + Hash + Drop, S: Copy + Eq + Hash + Dro
             literals,
             Origin::ConditionHelper(*version_set),
             false,
-            usize::MAX,
         )?;
     }
     Ok(())
-}
-
-/// Returns the number after that of the last literal's variable, if it is that of a candidate: often it is that of the next candidate.
-/// Otherwise it returns a number that no variable has.
-fn number_after(literals: &[Literal]) -> usize {
-    match literals.last() {
-        Some(literal) => {
-            if literal.positive {
-                return literal.variable.index().wrapping_add(1);
-            }
-            usize::MAX
-        }
-        None => usize::MAX,
-    }
 }
 
 /// Appends the literal of each candidate.
@@ -229,22 +206,13 @@ pub(crate) fn push_candidates<N: Copy + Eq + Hash + Drop, S: Copy + Eq + Hash + 
 ) -> Result<(), Exhausted>
     requires names { IsIdentity N.eq }
     requires solvables { IsIdentity S.eq }
-    requires bounded { IsBounded variables.old }
-    ensures bounded { IsBounded variables.new }
     ensures limit { limit_in variables.new ≡ limit_in variables.old }
     ensures grows { Grows (origins_in variables.old) (origins_in variables.new) }
     ensures added { OnOk result (Adds (origins_in variables.new) literals.old.items literals.new.items (map (λ s. atom (Solvable s) true) candidates.now)) }
     ensures refusal { IfErr result (IsShortage (AreFull variables.new)) }
 {
     for candidate in candidates {
-        let guess = number_after(literals);
-        push_literal(
-            variables,
-            literals,
-            Origin::Solvable(*candidate),
-            true,
-            guess,
-        )?;
+        push_literal(variables, literals, Origin::Solvable(*candidate), true)?;
     }
     Ok(())
 }

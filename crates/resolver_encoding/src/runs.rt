@@ -61,43 +61,6 @@ fn begun_before<T: Copy>(runs: &[Run<T>], index: usize) -> usize
     )
 }
 
-/// Returns whether as many runs as this begin before an index.
-fn is_begun_count<T: Copy>(runs: &[Run<T>], index: usize, count: usize) -> bool
-    requires { IsNonDecreasingBy (λ (run : Run T). run.first) runs.now }
-    ensures { MatchBool result (BeginBefore runs.now index count) ⊤ }
-{
-    if count == 0 || count > runs.len() {
-        return false;
-    }
-    if runs[count - 1].first as usize >= index {
-        return false;
-    }
-    if count == runs.len() {
-        return true;
-    }
-    if (runs[count].first as usize) < index {
-        return false;
-    }
-    true
-}
-
-/// How many runs from a guess on are looked at, one after another, before a binary search.
-const NEAR: usize = 16;
-
-/// Returns the number of runs that begin before an index, which takes little time if that is the guessed number or one of
-/// the next.
-fn begun_near<T: Copy>(runs: &[Run<T>], index: usize, guess: usize) -> usize
-    requires { IsNonDecreasingBy (λ (run : Run T). run.first) runs.now }
-    ensures { BeginBefore runs.now index result }
-{
-    'counts: for count in guess..guess.saturating_add(NEAR) {
-        if is_begun_count(runs, index, count) {
-            return count;
-        }
-    }
-    begun_before(runs, index)
-}
-
 /// Lets the last run have this first entry in place of its own.
 fn change_last<T: Copy>(runs: &mut Vec<Run<T>>, entry: T)
     requires { 0 < length runs.old.items }
@@ -185,18 +148,6 @@ impl<T: Copy> Runs<T> {
         ensures few { result.1 < 2 ^ 32 }
     {
         let begun = begun_before(&self.runs, index + 1);
-        entry_in(&self.runs[begun - 1], index)
-    }
-
-    /// Returns the entry with this index. If entries are asked for in their order with one guess, none of them takes long to
-    /// find. The guess may have any value at first.
-    pub(crate) fn at_near(&self, index: usize, guess: &mut usize) -> (T, usize)
-        requires { index < length self.now }
-        ensures value { slice_get self.now index ≡ Some result }
-        ensures few { result.1 < 2 ^ 32 }
-    {
-        let begun = begun_near(&self.runs, index + 1, *guess);
-        *guess = begun;
         entry_in(&self.runs[begun - 1], index)
     }
 }

@@ -3,7 +3,7 @@
 ghost use Rattle.std.specs.Prelude.{◌≡◌, ◌<◌, ◌≤◌, ◌^◌, ◌⊎◌, [], ◌∷◌, ◌++◌, ℕ, All, IfErr, List, OnErr, OnOk, length, map};
 ghost use Rattle.resolver_clause_store.specs.Laws.{IsIdentity};
 ghost use Rattle.resolver_clause_store.specs.Universe.{Universe};
-ghost use Rattle.resolver_clause_store.specs.Variables.{IsBounded, IsFull};
+ghost use Rattle.resolver_clause_store.specs.Variables.{IsFull};
 ghost use Rattle.resolver_encoding.specs.Atoms.{wanted};
 ghost use Rattle.resolver_encoding.specs.Encodings.{Grows, numbers_with};
 ghost use Rattle.resolver_encoding.specs.Refusals.{IsShortage};
@@ -69,7 +69,6 @@ impl<N: Copy + Eq + Hash + Drop, S: Copy + Eq + Hash + Drop> ClauseTable<N, S> {
     /// Creates an empty table with limits for its variables and its clauses.
     pub(crate) fn new(alloc: Global, variable_limit: usize, clause_limit: usize) -> Self
         requires { variable_limit ≤ 2 ^ 31 }
-        ensures bounded { IsBounded result.variables }
         ensures no_origins { (table_in result).origins ≡ [] }
         ensures no_literals { (table_in result).literals ≡ [] }
         ensures no_kinds { (table_in result).kinds ≡ [] }
@@ -100,9 +99,7 @@ impl<N: Copy + Eq + Hash + Drop, S: Copy + Eq + Hash + Drop> ClauseTable<N, S> {
     ) -> Result<(), Exhausted>
         requires names { IsIdentity N.eq }
         requires solvables { IsIdentity S.eq }
-        requires bounded { IsBounded self.old.variables }
         requires small { All (λ n. n < 2 ^ 63) choices.now.counts.items }
-        ensures bounded { IsBounded self.new.variables }
         ensures added { OnOk result ((u : Universe N S) → choices.now.candidates.items ≡ wanted u kind →
             HasAdded u kind (table_in self.old) (table_in self.new)) }
         ensures clauses_unchanged { OnErr result (table_in self.new ≡ record (table_in self.old) { origins = (table_in self.new).origins }) }
@@ -133,9 +130,7 @@ impl<N: Copy + Eq + Hash + Drop, S: Copy + Eq + Hash + Drop> ClauseTable<N, S> {
     ) -> Result<(), Exhausted>
         requires names { IsIdentity N.eq }
         requires solvables { IsIdentity S.eq }
-        requires bounded { IsBounded self.old.variables }
         requires small { All (λ n. n < 2 ^ 63) choices.now.counts.items }
-        ensures bounded { IsBounded self.new.variables }
         ensures grows { Grows (table_in self.old).origins (table_in self.new).origins }
         ensures added { OnOk result ((u : Universe N S) → choices.now.candidates.items ≡ wanted u kind →
             HasAdded u kind (table_in self.old) (table_in self.new)) }
@@ -161,10 +156,8 @@ impl<N: Copy + Eq + Hash + Drop, S: Copy + Eq + Hash + Drop> ClauseTable<N, S> {
     ) -> Result<Vec<usize>, Exhausted>
         requires names { IsIdentity N.eq }
         requires solvables { IsIdentity S.eq }
-        requires bounded { IsBounded self.old.variables }
         requires small { All (λ n. n < 2 ^ 63) choices.now.counts.items }
         requires empty { literals.old.items ≡ [] }
-        ensures bounded { IsBounded self.new.variables }
         ensures grows { Grows (table_in self.old).origins (table_in self.new).origins }
         ensures table { table_in self.new ≡ record (table_in self.old) { origins = (table_in self.new).origins } }
         ensures clause { OnOk result ((u : Universe N S) → choices.now.candidates.items ≡ wanted u kind.now →
@@ -174,14 +167,7 @@ impl<N: Copy + Eq + Hash + Drop, S: Copy + Eq + Hash + Drop> ClauseTable<N, S> {
         let second = second_of(kind);
         let helpers = depends_on(kind);
         literals.reserve_exact(count_of(&second, helpers, &choices.candidates))?;
-        let guesses = self.literals.last_front();
-        push_front(
-            &mut self.variables,
-            literals,
-            first_of(kind),
-            second,
-            guesses,
-        )?;
+        push_front(&mut self.variables, literals, first_of(kind), second)?;
         push_helpers(&mut self.variables, literals, helpers)?;
         let ends = places_behind(self.alloc, literals.len(), &choices.counts)?;
         push_candidates(&mut self.variables, literals, &choices.candidates)?;

@@ -82,7 +82,7 @@ justified-decides table old new literal level why other justified gains free =
           (gains-cases old new literal level _ gains v s at);
     }
 
-same-slots : (old new : Trail) → IsSame old new → (v : ℕ) → slot_of new v ≡ slot_of old v
+pub same-slots : (old new : Trail) → IsSame old new → (v : ℕ) → slot_of new v ≡ slot_of old v
 same-slots old new same = λ v. ap (λ slots. get_or slots v None) same.slots
 
 -- reasons stay right if the slots stay

@@ -24,7 +24,7 @@ use Rattle.resolver_clause_store.proofs.TrailLemmas.{Keeps, forcing-kept}
 use Rattle.resolvo.specs.Sources.{Source}
 use Rattle.resolvo.specs.Sources.{given_as}
 use Rattle.resolvo.specs.declared.clause_search.ClauseSearch.{ClauseSearch}
-use Rattle.resolvo.specs.ClauseSearches.{AreLoaded, IsConsistent, IsLoaded, IsSameProblem, IsSameSearch, KeepsFirst, numbers_of, place_of, stored_places}
+use Rattle.resolvo.specs.ClauseSearches.{AreLoaded, IsConsistent, IsLoaded, IsSameProblem, IsSameSearch, KeepsFirst, learnt_count_of, numbers_of, place_of, stored_places}
 use Rattle.resolvo.specs.Derivations.{IsDerived, given_at, number_of}
 use Rattle.resolvo.specs.Propagators.{IsPropagator}
 use Rattle.resolvo.specs.declared.propagator.Propagator.{Propagator}
@@ -238,8 +238,8 @@ chosen-listed table requirements requirement trail chosen = record {
 }
 
 -- a trail that was undone, and the number of its entries that are kept
-pub same-undone : (old new : ClauseSearch) (level : ℕ) → IsConsistent old → IsUndone old.trail new.trail level → old.base ≤ level → new.learnt ≡ old.learnt →
-    new.kept ≡ min old.kept (length_of new.trail) → new.base ≡ old.base → new.held ≡ old.held → IsSameSearch old new
+pub same-undone : (old new : ClauseSearch) (level : ℕ) → IsConsistent old → IsUndone old.trail new.trail level → old.base ≤ level →
+    learnt_count_of new ≡ learnt_count_of old → new.kept ≡ min old.kept (length_of new.trail) → new.base ≡ old.base → new.held ≡ old.held → IsSameSearch old new
 same-undone old new level it undone high learnt kept base held = record {
   set = record { was = λ v s at. (undone.stays v s at).0 };
   bookmarked = λ all. let fewer : length_of new.trail ≤ length_of old.trail = (keeps_undone old.trail new.trail level undone).were in
@@ -255,10 +255,10 @@ same-undone old new level it undone high learnt kept base held = record {
 pub consistent-given : (old new : ClauseSearch) (clause : List Literal) (number place level : ℕ) → IsConsistent old →
     IsBelow (variable_count old.trail) clause → place ≡ length old.table → new.table ≡ old.table ++ clause ∷ [] →
     new.sources ≡ old.sources ++ given_as number ∷ [] → new.places ≡ old.places ++ place ∷ [] →
-    new.requirements.items ≡ old.requirements.items → IsUndone old.trail new.trail level → old.base ≤ level → new.learnt ≡ old.learnt →
+    new.requirements.items ≡ old.requirements.items → IsUndone old.trail new.trail level → old.base ≤ level →
     new.kept ≡ min old.kept (length_of new.trail) → new.base ≡ old.base → new.held ≡ old.held → IsPropagator new.table new.trail new.propagator →
     IsQueued new.queue new.trail old.table old.requirements.items → IsConsistent new
-consistent-given old new clause number place level it below end table sources places requirements undone high learnt kept base held propagator queued =
+consistent-given old new clause number place level it below end table sources places requirements undone high kept base held propagator queued =
     let grows = grows-push old.table clause in
     let longer : length (old.table ++ clause ∷ []) ≡ length old.table + 1 = length-append old.table (clause ∷ []) in
     record {
@@ -273,7 +273,7 @@ consistent-given old new clause number place level it below end table sources pl
       inside = rw (table, requirements) (λ k d b. omega (arith, it.inside k d b, longer));
       places = rw (table, places) (All-push (λ p. p < length (old.table ++ clause ∷ [])) old.places place (λ k d b.
           omega (arith, it.places k d b, longer)) (omega (arith, end, longer)));
-      count = rw (table, places, learnt) (omega (arith, it.count, longer, length-append old.places (place ∷ [])));
+      count = rw (table, places) (omega (arith, it.count, longer, length-append old.places (place ∷ [])));
       kept = omega (arith, kept);
       propagator = propagator;
       turn = rw (base, held) (turn-undone old.trail new.trail old.base old.held old.kept level new.kept it.turn undone high kept);

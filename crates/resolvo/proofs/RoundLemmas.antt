@@ -24,7 +24,7 @@ use Rattle.resolver_clause_store.proofs.PlaceLemmas.{Keeps-same}
 use Rattle.resolver_clause_store.proofs.SlotLemmas.{slot-within}
 use Rattle.resolver_encoding.specs.Atoms.{Atom, atom}
 use Rattle.resolver_encoding.specs.Encodings.{Extends, Notes}
-use Rattle.resolver_encoding.specs.Notes.{IsBounded, notes_in}
+use Rattle.resolver_encoding.specs.Notes.{notes_in}
 use Rattle.resolver_encoding.specs.SoFar.{IsReading, IsReadMore, IsReadSoFar, left_count}
 use Rattle.resolver_encoding.specs.Trails.{Follows, chosen_in, origin_at, solvables_before}
 use Rattle.resolver_encoding.specs.declared.chosen.Chosen.{Chosen}
@@ -111,16 +111,15 @@ loaded_all table clauses numbers requirements old mid l are are_numbers loads =
 
 module _ {N S : Type 0} where
   -- the root was read
-  pub begun : (u : Universe N S) (root : Demands) (old : Rounds N S) (encoding : Encoding N S) → IsFresh old → IsBounded encoding →
+  pub begun : (u : Universe N S) (root : Demands) (old : Rounds N S) (encoding : Encoding N S) → IsFresh old →
       IsReadSoFar u root [] (notes_in encoding) →
       AreRounds u (record old { encoding = encoding })
-  begun u root old encoding fresh bounded read =
+  begun u root old encoding fresh read =
       let base : Trail = trail_of old.search in
       let empty : length_of base ≡ 0 = empty_trail base fresh.variables in
       let ReadFor : List S → Type 0 = λ set. IsReadSoFar u root set (notes_in encoding) in
       let FollowsTo : ℕ → Type 0 = λ n. Follows old.chosen (notes_in encoding).origins base n in
       record {
-        bounded = bounded;
         reading = record { root = root; so_far = subst ReadFor (sym fresh.none) read };
         consistent = fresh.consistent;
         loaded = record {
@@ -166,7 +165,6 @@ module _ {N S : Type 0} where
       IsLoaded (notes_of old).table (notes_of old).requirements new → variable_count (trail_of new) ≡ length (notes_of old).origins →
       KeepsBookmark old.search new → AreRounds u (record old { search = new })
   searched u old new rounds consistent loaded size kept = record {
-    bounded = rounds.bounded;
     reading = rounds.reading;
     consistent = consistent;
     loaded = record {
@@ -271,16 +269,15 @@ module _ {N S : Type 0} where
 
   -- one more reading
   pub read_more : (u : Universe N S) (old mid : Rounds N S) (from : ℕ) (keys : List S) (encoding : Encoding N S) → AreRounds u old → IsFollowing old mid from →
-      keys ≡ chosen_of mid → IsBounded encoding → IsReadMore u keys (notes_of mid) (notes_in encoding) →
+      keys ≡ chosen_of mid → IsReadMore u keys (notes_of mid) (notes_in encoding) →
       ((root : Demands) → IsReadSoFar u root (take from keys) (notes_of mid) → IsReadSoFar u root keys (notes_in encoding)) →
       AreRounds u (record mid { encoding = encoding })
-  read_more u old mid from keys encoding rounds following is bounded more reads =
+  read_more u old mid from keys encoding rounds following is more reads =
       let ReadFor : List S → Type 0 = λ set. IsReadSoFar u rounds.reading.root set (notes_in encoding) in
       let longer : length (notes_of mid).origins ≤ length (notes_in encoding).origins =
       Keeps-longer (notes_of mid).origins (notes_in encoding).origins Root more.origins in
       let bookmark : HasBookmark mid = following.bookmark in
       record {
-        bounded = bounded;
         reading = record {
           root = rounds.reading.root;
           so_far = subst ReadFor is (reads rounds.reading.root (read_first u rounds.reading.root old mid from keys following is rounds.reading.so_far));

@@ -31,7 +31,7 @@ use Rattle.resolver_clause_store.proofs.TrailLemmas.{gains-cases, keeps-gains}
 use Rattle.resolver_encoding.specs.Atoms.{Atom, atom}
 use Rattle.resolver_encoding.specs.Encodings.{Extends, Notes}
 use Rattle.resolver_encoding.specs.LeftOut.{IsLeftOut}
-use Rattle.resolver_encoding.specs.Notes.{IsBounded, notes_in}
+use Rattle.resolver_encoding.specs.Notes.{notes_in}
 use Rattle.resolver_encoding.specs.Reach.{AreNear}
 use Rattle.resolver_encoding.specs.ReadState.{AreSeeds}
 use Rattle.resolver_encoding.specs.SoFar.{IsReadSoFar}
@@ -160,15 +160,14 @@ module _ {N S : Type 0} where
   asked_for u root chosen soft notes so near = record { named = asked_named u root chosen notes so; near = near.asked }
 
   -- the rounds are right after clauses were added
-  pub rounds_added : (u : Universe N S) (old : Rounds N S) (encoding : Encoding N S) → AreRounds u old → IsBounded encoding →
+  pub rounds_added : (u : Universe N S) (old : Rounds N S) (encoding : Encoding N S) → AreRounds u old →
       IsAddition u (notes_of old) (notes_in encoding) → AreRounds u (record old { encoding = encoding })
-  rounds_added u old encoding rounds bounded adds =
+  rounds_added u old encoding rounds adds =
       let longer : length (notes_of old).origins ≤ length (notes_in encoding).origins =
       Keeps-longer (notes_of old).origins (notes_in encoding).origins Root adds.origins in
       let Requiring : List ℕ → Type 0 = λ list. Extends rounds.loaded.numbers list in
       let bookmark : HasBookmark old = rounds.bookmark in
       record {
-        bounded = bounded;
         reading = record { root = rounds.reading.root; so_far = adds.keeps rounds.reading.root (chosen_of old) rounds.reading.so_far };
         consistent = rounds.consistent;
         loaded = record {
@@ -355,10 +354,8 @@ module _ {N S : Type 0} where
       IsFollowing old new from → IsWithin (chosen_of new) (chosen_of before) → AreRounds u new
   rounds_followed u before old new from rounds same following within =
       let encoding : before.encoding ≡ new.encoding = sym (following.encoding ∙ same) in
-      let Bounded : Encoding N S → Type 0 = λ e. IsBounded e in
       let Read : Encoding N S → Type 0 = λ e. IsReadSoFar u rounds.reading.root (chosen_of new) (notes_in e) in
       record {
-        bounded = subst Bounded encoding rounds.bounded;
         reading = record {
           root = rounds.reading.root;
           so_far = subst Read encoding (so_far_less u rounds.reading.root (chosen_of new) (chosen_of before)
@@ -789,18 +786,17 @@ module _ {N S : Type 0} where
             }
 
   -- the rounds before a turn, when only the exemptions changed and a variable was assumed
-  pub rounds_assumed : (u : Universe N S) (old : Rounds N S) (encoding : Encoding N S) (search : ClauseSearch) (v : ℕ) → AreRounds u old → IsBounded encoding →
+  pub rounds_assumed : (u : Universe N S) (old : Rounds N S) (encoding : Encoding N S) (search : ClauseSearch) (v : ℕ) → AreRounds u old →
       notes_in encoding ≡ record (notes_of old) { exempt = (notes_in encoding).exempt } →
       ((d : Demands) (set : List S) → IsReadSoFar u d set (notes_of old) → IsReadSoFar u d set (notes_in encoding)) → IsConsistent search →
       KeepsLoaded old.search search → variable_count (trail_of search) ≡ variable_count (trail_of old.search) → KeepsBookmark old.search search →
       AreRounds u (record old { encoding = encoding; search = search })
-  rounds_assumed u old encoding search v rounds bounded only stays consistent loads size bookmark =
+  rounds_assumed u old encoding search v rounds only stays consistent loads size bookmark =
       let origins : (notes_of old).origins ≡ (notes_in encoding).origins = sym (ap (λ (n : Notes N S). n.origins) only) in
       let Follow : List (Origin N S) → Type 0 = λ os. Follows old.chosen os rounds.bookmark.base (length_of rounds.bookmark.base) in
       let Table : List (List Literal) → Type 0 = λ table. Extends rounds.loaded.given table in
       let Requiring : List ℕ → Type 0 = λ list. Extends rounds.loaded.numbers list in
       record {
-        bounded = bounded;
         reading = record { root = rounds.reading.root; so_far = stays rounds.reading.root (chosen_of old) rounds.reading.so_far };
         consistent = consistent;
         loaded = record {

@@ -1,22 +1,22 @@
 -- The effect of a visit to a clause that watches a false literal.
 use Rattle.std.proofs.Common.{◌≡◌, ◌≢◌, ℕ, ◌+◌, ◌-◌, ◌<◌, ◌≤◌, ◌⊎◌, List, [], ◌∷◌, ◌++◌, length, get_or, Option, Some, None, Bool, true, false, inl, inr, refl}
 use Rattle.std.proofs.Common.{sym, ap, ◌∙◌, subst, ⊎_elim, arith}
-use Rattle.std.specs.Prelude.{All, Any, Contains, IfSome, MatchOption, slice_get, if◌then◌else◌}
+use Rattle.std.specs.Prelude.{All, Any, count_by, Contains, IfSome, MatchOption, slice_get, if◌then◌else◌}
 use Rattle.std.specs.Bool.{beq}
-use Rattle.std.specs.Option.{option_eq, option_map_or}
+use Rattle.std.specs.Option.{is_none, option_eq, option_map_or}
 use Rattle.std.proofs.lemmas.Bool.{cases_lt, cases_eq}
 use Rattle.std.proofs.lemmas.List.Elements.{All-append, All-cons, All-nil, Contains-append_left}
 use Rattle.std.proofs.lemmas.List.Quantifiers.{Any-push}
 use Rattle.std.proofs.lemmas.Option.{same_Some, none-some, slice_get_within, get_or_from_slice_get, slice_get-get_or}
 use Rattle.resolver_clause_store.specs.Slots.{is_decided}
-use Rattle.resolvo.specs.Propagation.{Extends}
+use Rattle.resolvo.specs.Propagation.{Extends, IsJustified, IsUnit, Propagates}
 use Rattle.resolver_clause_store.specs.declared.Literal.{Literal}
 use Rattle.resolver_clause_store.specs.declared.Slot.{Slot}
 use Rattle.resolver_clause_store.specs.declared.Reason.TheVariants.{Forced}
 use Rattle.resolver_clause_store.specs.declared.Trail.{Trail}
 use Rattle.resolver_clause_store.specs.Formula.{AreBelow, clause_at}
 use Rattle.resolver_clause_store.specs.Outcomes.{IsSatisfied}
-use Rattle.resolver_clause_store.specs.TrailView.{slot_of, length_of, level_of, literal_value, variable_at, variable_count, Gains, IsTop}
+use Rattle.resolver_clause_store.specs.TrailView.{slot_of, length_of, level_of, literal_value, open_count, variable_at, variable_count, Gains, IsSame, IsTop}
 use Rattle.resolver_clause_store.proofs.PlaceLemmas.{place_cases}
 use Rattle.resolver_clause_store.proofs.TrailLemmas.{Keeps, gains-cases, keeps-gains, value-true}
 use Rattle.resolver_clause_store.proofs.WatchListLemmas.{fit-at}
@@ -34,6 +34,7 @@ use Rattle.resolver_clause_store.specs.declared.PlacedWatch.{PlacedWatch}
 use Rattle.resolver_clause_store.specs.declared.Watch.{Watch}
 use Rattle.resolver_clause_store.specs.declared.WatchedPair.{WatchedPair}
 use Rattle.resolver_clause_store.specs.declared.Watches.{Watches}
+use Rattle.resolvo.proofs.JustifiedLemmas.{extends-gains, justified-gains, justified-same, same-slots}
 use Rattle.resolvo.proofs.PropagatorLemmas.{any-contains, any-map, excused-kept, propagator-gains, value-of}
 
 all-at : {X : Type 0} (P : X → Type 0) (xs : List X) (k : ℕ) (x : X) → All P xs → slice_get xs k ≡ Some x → P x
@@ -538,3 +539,40 @@ extends-trans one two three first second =
           (λ (was : slot_of two variable ≡ Some slot). first.only variable slot was)
           (λ (forced : is_decided slot.reason ≡ false). inr forced) (second.only variable slot at);
     }
+
+-- propagation forces nothing, one literal, or first some and then others
+pub propagates-none : (table : List (List Literal)) (trail : Trail) → IsJustified table trail → Propagates table trail trail
+propagates-none table trail justified = record { justified = justified; extends = extends-same trail; size = refl; open_ones = omega arith; total = refl }
+
+pub propagates-same : (table : List (List Literal)) (old new : Trail) → IsJustified table old → IsSame old new → Propagates table old new
+propagates-same table old new justified same =
+    let fewer : open_count new ≡ open_count old = ap (count_by is_none) same.slots in
+    let back = same-slots old new same in
+    record {
+      justified = justified-same table old new justified same;
+      extends = record { kept = λ v s at. back v ∙ at; only = λ v s at. inl (sym (back v) ∙ at) };
+      size = ap length same.slots;
+      open_ones = omega (arith, fewer);
+      total = omega (arith, fewer, ap length same.order);
+    }
+
+pub propagates-gains : (table : List (List Literal)) (old new : Trail) (literal : Literal) (level number : ℕ) → IsJustified table old →
+    Gains old new literal level (Forced number) → slot_of old literal.variable ≡ None → number < length table → Contains (clause_at table number) literal →
+    IsUnit old literal (clause_at table number) → Propagates table old new
+propagates-gains table old new literal level number justified gains free inside there unit = record {
+  justified = justified-gains table old new literal level number justified gains free inside there unit;
+  extends = extends-gains old new literal level number gains free;
+  size = gains.size;
+  open_ones = omega (arith, gains.fewer_open);
+  total = omega (arith, gains.fewer_open, gains.count);
+}
+
+pub propagates-trans : (table : List (List Literal)) (one two three : Trail) → Propagates table one two → Propagates table two three →
+    Propagates table one three
+propagates-trans table one two three first second = record {
+  justified = second.justified;
+  extends = extends-trans one two three first.extends second.extends;
+  size = second.size ∙ first.size;
+  open_ones = omega (arith, first.open_ones, second.open_ones);
+  total = second.total ∙ first.total;
+}

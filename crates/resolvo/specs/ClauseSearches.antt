@@ -1,5 +1,5 @@
 -- A search over clauses, and its results.
-use Rattle.std.specs.Prelude.{◌≡◌, ℕ, ◌+◌, ◌<◌, ◌≤◌, Some, List, length, map, slice_index, All}
+use Rattle.std.specs.Prelude.{◌≡◌, ℕ, ◌+◌, ◌-◌, ◌<◌, ◌≤◌, Some, List, length, map, slice_index, All}
 use Rattle.resolver_clause_store.specs.declared.Literal.{Literal}
 use Rattle.resolver_clause_store.specs.declared.RequirementClause.{RequirementClause}
 use Rattle.resolver_clause_store.specs.declared.StoredRequirement.{StoredRequirement}
@@ -24,9 +24,9 @@ use Rattle.resolver_clause_store.specs.Queues.{IsQueued}
 abbrev pub trail_of : ClauseSearch → Trail
 trail_of it = it.trail
 
--- the number of learnt clauses
+-- the number of learnt clauses, which are those that were not given
 abbrev pub learnt_count_of : ClauseSearch → ℕ
-learnt_count_of it = it.learnt
+learnt_count_of it = length it.table - length it.places
 
 -- the number of clauses, given and learnt
 abbrev pub clause_count_of : ClauseSearch → ℕ
@@ -85,7 +85,7 @@ pub record IsConsistent (it : ClauseSearch) : Type 0 where
   pub chosen : AreChosen it.table it.requirements.items it.trail
   pub inside : All (λ (requirement : StoredRequirement). requirement.number < length it.table) it.requirements.items
   pub places : All (λ place. place < length it.table) it.places
-  pub count : it.learnt + length it.places ≡ length it.table
+  pub count : length it.places ≤ length it.table
   pub kept : it.kept ≤ length_of it.trail
   pub propagator : IsPropagator it.table it.trail it.propagator
   pub turn : IsTurn it.trail it.base it.held it.kept

@@ -1,5 +1,5 @@
 -- Clauses under a trail, and the effect of propagation on it.
-use Rattle.std.specs.Prelude.{◌≡◌, ℕ, ◌<◌, ◌⊎◌, ◌++◌, ◌∷◌, true, false, Option, Some, None, List, length, All, Contains, slice_index_or}
+use Rattle.std.specs.Prelude.{◌≡◌, ℕ, ◌+◌, ◌<◌, ◌≤◌, ◌⊎◌, ◌++◌, ◌∷◌, true, false, Option, Some, None, List, length, All, Contains, slice_index_or}
 use Rattle.resolver_clause_store.specs.declared.Literal.{Literal}
 use Rattle.resolver_clause_store.specs.declared.StoredRequirement.{StoredRequirement}
 use Rattle.resolver_clause_store.specs.declared.Slot.{Slot}
@@ -7,7 +7,7 @@ use Rattle.resolver_clause_store.specs.declared.Reason.TheVariants.{Assumed, Dec
 use Rattle.resolver_clause_store.specs.declared.Trail.{Trail}
 use Rattle.resolver_clause_store.specs.Formula.{clause_at}
 use Rattle.resolver_clause_store.specs.Slots.{is_decided}
-use Rattle.resolver_clause_store.specs.TrailView.{slot_of, literal_value}
+use Rattle.resolver_clause_store.specs.TrailView.{length_of, literal_value, open_count, slot_of, variable_count}
 use Rattle.resolver_clause_store.specs.Outcomes.{IsFalseBefore, IsFalsified, IsSatisfied, IsForcing}
 use Rattle.resolver_clause_store.specs.Settled.{IsOpen}
 use Rattle.resolvo.specs.declared.clause_state.State.{State}
@@ -60,6 +60,14 @@ pub record AreChosen (table : List (List Literal)) (requirements : List StoredRe
 pub record Extends (old new : Trail) : Type 0 where
   pub kept : (variable : ℕ) (slot : Slot) → slot_of old variable ≡ Some slot → slot_of new variable ≡ Some slot
   pub only : (variable : ℕ) (slot : Slot) → slot_of new variable ≡ Some slot → (slot_of old variable ≡ Some slot) ⊎ (is_decided slot.reason ≡ false)
+
+-- what was forced is justified, all values stay, and each new entry of the trail gave a variable its value
+pub record Propagates (table : List (List Literal)) (old new : Trail) : Type 0 where
+  pub justified : IsJustified table new
+  pub extends : Extends old new
+  pub size : variable_count new ≡ variable_count old
+  pub open_ones : open_count new ≤ open_count old
+  pub total : open_count new + length_of new ≡ open_count old + length_of old
 
 -- no new variable is assumed
 pub record AssumesNone (old new : Trail) : Type 0 where

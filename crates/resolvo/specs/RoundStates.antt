@@ -9,17 +9,18 @@ use Rattle.resolver_clause_store.specs.Reached.{AllReached}
 use Rattle.resolver_clause_store.specs.SoftRun.{Exempts, FitsNowhere, SoftRun, options, own_packages}
 use Rattle.resolver_clause_store.specs.Valid.{IsValid}
 use Rattle.resolver_clause_store.specs.declared.SoftRequirement.{SoftRequirement}
-use Rattle.resolver_clause_store.specs.Variables.{Keeps}
+use Rattle.resolver_clause_store.specs.Variables.{Keeps, origins_in}
 use Rattle.resolver_clause_store.specs.TrailView.{Gains, IsCut, KeepsPlaces, length_of, level_of, slot_of, variable_at, variable_count}
 use Rattle.resolver_clause_store.specs.Universe.{Universe, Demands}
 use Rattle.resolver_clause_store.specs.declared.Literal.{Literal}
+use Rattle.resolver_clause_store.specs.declared.ClauseKind.{ClauseKind}
 use Rattle.resolver_clause_store.specs.declared.Origin.{Origin}
 use Rattle.resolver_clause_store.specs.declared.Reason.TheVariants.{Assumed}
 use Rattle.resolver_clause_store.specs.declared.Slot.{Slot}
 use Rattle.resolver_clause_store.specs.declared.Trail.{Trail}
 use Rattle.resolver_encoding.specs.Encodings.{Extends, IsFull, IsUnread, KeepsLimits, Notes}
 use Rattle.resolver_encoding.specs.LeftOut.{IsLeftOut}
-use Rattle.resolver_encoding.specs.Notes.{IsBounded, notes_in}
+use Rattle.resolver_encoding.specs.Notes.{notes_in}
 use Rattle.resolver_encoding.specs.SoFar.{IsReading, IsReadSoFar, left_count}
 use Rattle.resolver_encoding.specs.Reach.{AreNear}
 use Rattle.resolver_encoding.specs.ReadState.{AreSeeds}
@@ -76,9 +77,15 @@ pub record HasAssumed (search : ClauseSearch) (variable : ℕ) : Type 0 where
   pub place : variable_at (trail_of search) (held_of search - 1) ≡ variable
 
 module _ {N S : Type 0} where
-  -- the notes of the encoding; the chosen solvables and the values
+  -- the notes of the encoding; what its variables stand for, and the kinds of its clauses; the chosen solvables; the search
   abbrev pub notes_of : Rounds N S → Notes N S
   notes_of r = notes_in r.encoding
+
+  abbrev pub origins_of : Rounds N S → List (Origin N S)
+  origins_of r = origins_in r.encoding.table.variables
+
+  abbrev pub kinds_of : Rounds N S → List (ClauseKind N S)
+  kinds_of r = r.encoding.table.kinds
 
   abbrev pub chosen_of : Rounds N S → List S
   chosen_of r = chosen_in r.chosen
@@ -105,7 +112,6 @@ module _ {N S : Type 0} where
 
   -- nothing is read yet
   pub record IsFresh (r : Rounds N S) : Type 0 where
-    pub bounded : IsBounded r.encoding
     pub unread : IsUnread (notes_of r)
     pub exempt : (notes_of r).exempt ≡ []
     pub consistent : IsConsistent r.search
@@ -117,7 +123,6 @@ module _ {N S : Type 0} where
 
   -- the invariant of the rounds
   pub record AreRounds (u : Universe N S) (r : Rounds N S) : Type 0 where
-    pub bounded : IsBounded r.encoding
     pub reading : IsReading u (chosen_of r) (notes_of r)
     pub consistent : IsConsistent r.search
     pub loaded : HasLoaded (notes_of r).table (notes_of r).requirements r.search

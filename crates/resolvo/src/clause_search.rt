@@ -66,7 +66,6 @@ pub struct ClauseSearch {
     sources: Sources,
     requirements: Vec<StoredRequirement>,
     places: Places,
-    learnt: usize,
     /// The number of first entries of the trail that have not changed since the trail was last bookmarked.
     kept: usize,
     /// The level of the present assumption, or 0 if there is none.
@@ -137,7 +136,6 @@ impl ClauseSearch {
             sources: Sources::new(alloc),
             requirements: Vec::new(alloc),
             places: Places::new(alloc),
-            learnt: 0,
             kept: 0,
             base: 0,
             held: 0,
@@ -157,7 +155,7 @@ impl ClauseSearch {
     pub fn learnt_count(&self) -> usize
         ensures { result ≡ learnt_count_of self.now }
     {
-        self.learnt
+        self.table.len().saturating_sub(self.places.len())
     }
 
     /// Returns the number of clauses, given and learnt.
@@ -297,9 +295,8 @@ impl ClauseSearch {
         ensures count { OnOk result (length clauses.now ≤ length self.new.places) }
     {
         let mut literals = Vec::new(alloc);
-        let mut guess = 0;
         'clauses: for number in self.places.len()..clauses.len() {
-            clauses.read_near(number, &mut guess, &mut literals)?;
+            clauses.read(number, &mut literals)?;
             self.load_clause(&literals)?;
         }
         Ok(())
@@ -417,7 +414,6 @@ impl ClauseSearch {
         self.propagator.attach(&self.trail, &literals)?;
         self.table.push(&literals)?;
         self.sources.push_learnt(causes)?;
-        self.learnt += 1;
         let back = backtrack_level.max(self.base);
         self.trail.undo_until(back);
         self.propagator.cut(&self.trail)?;
@@ -449,7 +445,7 @@ impl ClauseSearch {
         if asserted_level(&self.trail, &learnt) <= self.base {
             return Ok(Some(Outcome::Refused));
         }
-        if learnt_limit <= self.learnt || clause_limit <= self.table.len() {
+        if learnt_limit <= self.learnt_count() || clause_limit <= self.table.len() {
             return Err(Exhausted::Ids);
         }
         self.backtrack(learnt)?;
@@ -589,7 +585,10 @@ impl ClauseSearch {
         ensures learnt { OnOk result (learnt_count_of self.new ≡ learnt_count_of self.old) }
         ensures refusal { IfErr result (IsInterruption (D.may_cancel provider.now)) }
     {
-        if !is_due(self.learnt, self.trail.level().saturating_sub(self.base)) {
+        if !is_due(
+            self.learnt_count(),
+            self.trail.level().saturating_sub(self.base),
+        ) {
             return Ok(());
         }
         match self.next_step(provider)? {

@@ -2,7 +2,7 @@
 
 ghost use Rattle.std.specs.Prelude.{◌≡◌, ◌⊎◌, ◌<◌, ◌≤◌, ◌^◌, ℕ, All, Contains, IfErr, OnOk, Some, false, slice_get, ⊤};
 ghost use Rattle.resolver_clause_store.specs.Laws.{IsIdentity};
-ghost use Rattle.resolver_clause_store.specs.Variables.{IsBounded as AreBounded, IsFull as AreFull, limit_in, origins_in};
+ghost use Rattle.resolver_clause_store.specs.Variables.{IsFull as AreFull, limit_in, origins_in};
 ghost use Rattle.resolver_clause_store.specs.declared.ClauseKind.TheVariants.{HasBit as HasBitKind};
 ghost use Rattle.resolver_clause_store.specs.declared.Origin.TheVariants.{Solvable};
 ghost use Rattle.resolver_encoding.specs.Called.{IsSeeing, IsSeeingEach};
@@ -14,7 +14,7 @@ ghost use Rattle.resolver_encoding.specs.Refusals.{IsShortage};
 use super::Encoding;
 use crate::codes::{digit_count, has_digit, new_digit};
 use resolver_clause_store::{
-    ClauseKind, DependencyProvider, Exhausted, Interner, Origin, Variables, append, place_near,
+    ClauseKind, DependencyProvider, Exhausted, Interner, Origin, Variables, append, is_among,
 };
 use std::hash::Hash;
 
@@ -26,22 +26,18 @@ fn make_variables<N: Copy + Eq + Hash + Drop, S: Copy + Eq + Hash + Drop>(
 ) -> Result<(), Exhausted>
     requires names { IsIdentity N.eq }
     requires solvables { IsIdentity S.eq }
-    requires bounded { AreBounded variables.old }
-    ensures bounded { AreBounded variables.new }
     ensures limit { limit_in variables.new ≡ limit_in variables.old }
     ensures grows { Grows (origins_in variables.old) (origins_in variables.new) }
     ensures refusal { IfErr result (IsShortage (AreFull variables.new)) }
 {
-    let mut next = usize::MAX;
     for candidate in candidates {
-        let variable = variables.intern_near(Origin::Solvable(*candidate), next)?;
-        next = variable.index().wrapping_add(1);
+        variables.intern(Origin::Solvable(*candidate))?;
     }
     Ok(())
 }
 
 impl<N: Copy + Eq + Hash + Drop, S: Copy + Eq + Hash + Drop> Encoding<N, S> {
-    ghost use Rattle.resolver_encoding.specs.Notes.{IsBounded, KeepsRoom, notes_in};
+    ghost use Rattle.resolver_encoding.specs.Notes.{KeepsRoom, notes_in};
 
     /// Adds a clause for each of these solvables: the new digit of its code is not set.
     fn open_digit<D: DependencyProvider<NameId = N, SolvableId = S>>(
@@ -53,7 +49,6 @@ impl<N: Copy + Eq + Hash + Drop, S: Copy + Eq + Hash + Drop> Encoding<N, S> {
         index: u32,
         earlier: &[S],
     ) -> Result<(), Exhausted>
-        requires bounded { IsBounded self.old }
         requires number { number ≡ 2 ^ index }
         requires below { AreGroups (notes_in self.old).groups → (k : ℕ) (t : S) → IsAt (notes_in self.old).groups name k t → k < number }
         requires earlier { (k : ℕ) (t : S) → slice_get earlier.now k ≡ Some t → IsAt (notes_in self.old).groups name k t }
@@ -85,7 +80,6 @@ impl<N: Copy + Eq + Hash + Drop, S: Copy + Eq + Hash + Drop> Encoding<N, S> {
         number: usize,
         solvable: S,
     ) -> Result<(), Exhausted>
-        requires bounded { IsBounded self.old }
         requires below { AreGroups (notes_in self.old).groups → (k : ℕ) (t : S) → IsAt (notes_in self.old).groups name k t → k < number }
         ensures room { KeepsRoom self.old self.new }
         ensures step { OnOk result (IsStepWhile (D.universe provider.now) (coding_for name number solvable) (λ root. ⊤) (notes_in self.old)
@@ -115,7 +109,6 @@ impl<N: Copy + Eq + Hash + Drop, S: Copy + Eq + Hash + Drop> Encoding<N, S> {
         number: usize,
         solvable: S,
     ) -> Result<(), Exhausted>
-        requires bounded { IsBounded self.old }
         requires name { name ≡ (D.universe provider.now).name solvable }
         ensures room { KeepsRoom self.old self.new }
         ensures step { OnOk result (IsStepWhile (D.universe provider.now) (coding_for name number solvable) (λ root. ⊤) (notes_in self.old)
@@ -139,15 +132,11 @@ impl<N: Copy + Eq + Hash + Drop, S: Copy + Eq + Hash + Drop> Encoding<N, S> {
     }
 
     /// Registers a new candidate: it gets a variable, a number under its name, and the clauses of its code.
-    ///
-    /// If its variable has the number that is guessed, that is found at once.
     fn register_new<D: DependencyProvider<NameId = N, SolvableId = S>>(
         &mut self,
         provider: &D,
         solvable: S,
-        variable: usize,
     ) -> Result<(), Exhausted>
-        requires bounded { IsBounded self.old }
         requires absent { Contains (notes_in self.old).seen solvable → ⊥ }
         ensures room { KeepsRoom self.old self.new }
         ensures step { OnOk result (IsAskStep (D.universe provider.now) (IsSeeing solvable) (λ root. ⊤) (notes_in self.old) (notes_in self.new)) }
@@ -158,9 +147,7 @@ impl<N: Copy + Eq + Hash + Drop, S: Copy + Eq + Hash + Drop> Encoding<N, S> {
         ensures refusal { IfErr result (IsShortage (IsFull (notes_in self.new))) }
     {
         let name = provider.solvable_name(solvable);
-        self.table
-            .variables
-            .intern_near(Origin::Solvable(solvable), variable)?;
+        self.table.variables.intern(Origin::Solvable(solvable))?;
         let number = self.groups.named(name).len();
         self.begin_digit(provider, name, number, solvable)?;
         self.add_code(provider, name, number, solvable)?;
@@ -169,19 +156,12 @@ impl<N: Copy + Eq + Hash + Drop, S: Copy + Eq + Hash + Drop> Encoding<N, S> {
         Ok(())
     }
 
-    /// Registers a candidate, if it is new. Returns the place after its own among the registered ones.
-    ///
-    /// It takes little time if the candidate is registered at the place that is guessed, or is new and has the variable that
-    /// is guessed.
-    #[inline(always)]
+    /// Registers a candidate, if it is new.
     pub(super) fn see<D: DependencyProvider<NameId = N, SolvableId = S>>(
         &mut self,
         provider: &D,
         solvable: S,
-        guess: usize,
-        variable: usize,
-    ) -> Result<usize, Exhausted>
-        requires bounded { IsBounded self.old }
+    ) -> Result<(), Exhausted>
         ensures room { KeepsRoom self.old self.new }
         ensures step { OnOk result (IsAskStep (D.universe provider.now) (IsSeeing solvable) (λ root. ⊤) (notes_in self.old) (notes_in self.new)) }
         ensures seen { OnOk result (Contains (notes_in self.new).seen solvable) }
@@ -190,13 +170,11 @@ impl<N: Copy + Eq + Hash + Drop, S: Copy + Eq + Hash + Drop> Encoding<N, S> {
         ensures requirements { OnOk result ((notes_in self.new).requirements ≡ (notes_in self.old).requirements) }
         ensures refusal { IfErr result (IsShortage (IsFull (notes_in self.new))) }
     {
-        match place_near(&self.seen, &solvable, guess) {
-            Some(place) => Ok(place.wrapping_add(1)),
-            None => {
-                self.register_new(provider, solvable, variable)?;
-                Ok(self.seen.len())
-            }
+        if is_among(&self.seen, &solvable) {
+            return Ok(());
         }
+        self.register_new(provider, solvable)?;
+        Ok(())
     }
 
     /// Registers each of the candidates.
@@ -205,19 +183,14 @@ impl<N: Copy + Eq + Hash + Drop, S: Copy + Eq + Hash + Drop> Encoding<N, S> {
         provider: &D,
         candidates: &[S],
     ) -> Result<(), Exhausted>
-        requires bounded { IsBounded self.old }
         ensures room { KeepsRoom self.old self.new }
         ensures step { OnOk result (IsAskStep (D.universe provider.now) (IsSeeingEach candidates.now) (λ root. ⊤) (notes_in self.old) (notes_in self.new)) }
         ensures seen { OnOk result (All (Contains (notes_in self.new).seen) candidates.now) }
         ensures refusal { IfErr result (IsShortage (IsFull (notes_in self.new))) }
     {
-        let first = self.table.variables.len();
         make_variables(&mut self.table.variables, candidates)?;
-        let known = self.seen.len();
-        let mut next = usize::MAX;
         for candidate in candidates {
-            let variable = first.wrapping_add(self.seen.len().wrapping_sub(known));
-            next = self.see(provider, *candidate, next, variable)?;
+            self.see(provider, *candidate)?;
         }
         Ok(())
     }

@@ -51,7 +51,7 @@ fn own_parent<D: DependencyProvider>(
 }
 
 impl<N: Copy + Eq + Hash + Drop, S: Copy + Eq + Hash + Drop> Encoding<N, S> {
-    ghost use Rattle.resolver_encoding.specs.Notes.{IsBounded, KeepsRoom, notes_in};
+    ghost use Rattle.resolver_encoding.specs.Notes.{KeepsRoom, notes_in};
 
     /// Forbids a candidate together with the requirer of the constraint. If these are the same solvable, it is
     /// forbidden alone.
@@ -62,7 +62,6 @@ impl<N: Copy + Eq + Hash + Drop, S: Copy + Eq + Hash + Drop> Encoding<N, S> {
         version_set: VersionSetId,
         candidate: S,
     ) -> Result<(), Exhausted>
-        requires bounded { IsBounded self.old }
         requires other { Contains (others (D.universe provider.now) version_set) candidate }
         ensures room { KeepsRoom self.old self.new }
         ensures step { OnOk result (IsStep (D.universe provider.now) (HasConstraint (D.universe provider.now) by version_set) (notes_in self.old)
@@ -86,7 +85,6 @@ impl<N: Copy + Eq + Hash + Drop, S: Copy + Eq + Hash + Drop> Encoding<N, S> {
         version_set: VersionSetId,
         forbidden: &[S],
     ) -> Result<(), Exhausted>
-        requires bounded { IsBounded self.old }
         requires forbidden { forbidden.now ≡ others (D.universe provider.now) version_set }
         ensures room { KeepsRoom self.old self.new }
         ensures step { OnOk result (IsStep (D.universe provider.now) (HasConstraint (D.universe provider.now) by version_set) (notes_in self.old)
@@ -107,7 +105,6 @@ impl<N: Copy + Eq + Hash + Drop, S: Copy + Eq + Hash + Drop> Encoding<N, S> {
         version_set: VersionSetId,
         forbidden: &[S],
     ) -> Result<(), Exhausted>
-        requires bounded { IsBounded self.old }
         requires forbidden { forbidden.now ≡ others (D.universe provider.now) version_set }
         ensures room { KeepsRoom self.old self.new }
         ensures step { OnOk result (IsStep (D.universe provider.now) (λ root. ⊤) (notes_in self.old) (notes_in self.new)) }
@@ -131,7 +128,6 @@ impl<N: Copy + Eq + Hash + Drop, S: Copy + Eq + Hash + Drop> Encoding<N, S> {
         version_set: VersionSetId,
         forbidden: &[S],
     ) -> Result<(), Exhausted>
-        requires bounded { IsBounded self.old }
         requires forbidden { forbidden.now ≡ others (D.universe provider.now) version_set }
         ensures room { KeepsRoom self.old self.new }
         ensures step { OnOk result (IsStep (D.universe provider.now) (λ root. ⊤) (notes_in self.old) (notes_in self.new)) }
@@ -153,7 +149,6 @@ impl<N: Copy + Eq + Hash + Drop, S: Copy + Eq + Hash + Drop> Encoding<N, S> {
         by: By<S>,
         version_set: VersionSetId,
     ) -> Result<(), Exhausted>
-        requires bounded { IsBounded self.old }
         ensures room { KeepsRoom self.old self.new }
         ensures step { OnOk result (IsStep (D.universe provider.now) (HasConstraint (D.universe provider.now) by version_set) (notes_in self.old)
             (notes_in self.new)) }
@@ -175,7 +170,6 @@ impl<N: Copy + Eq + Hash + Drop, S: Copy + Eq + Hash + Drop> Encoding<N, S> {
         version_set: VersionSetId,
         forbidden: &[S],
     ) -> Result<(), Exhausted>
-        requires bounded { IsBounded self.old }
         requires forbidden { forbidden.now ≡ others (D.universe provider.now) version_set }
         ensures room { KeepsRoom self.old self.new }
         ensures step { OnOk result (IsStep (D.universe provider.now) (HasConstraint (D.universe provider.now) by version_set) (notes_in self.old)
@@ -204,7 +198,6 @@ impl<N: Copy + Eq + Hash + Drop, S: Copy + Eq + Hash + Drop> Encoding<N, S> {
         version_set: VersionSetId,
         forbidden: &[S],
     ) -> Result<(), Exhausted>
-        requires bounded { IsBounded self.old }
         requires forbidden { forbidden.now ≡ others (D.universe provider.now) version_set }
         requires encoding { IsEncodingOf (D.universe provider.now) (HasConstraint (D.universe provider.now) by version_set) (notes_in self.old) }
         ensures room { KeepsRoom self.old self.new }
@@ -228,7 +221,6 @@ impl<N: Copy + Eq + Hash + Drop, S: Copy + Eq + Hash + Drop> Encoding<N, S> {
         by: By<S>,
         version_set: VersionSetId,
     ) -> Result<(), Interrupted<D::Cancel>>
-        requires bounded { IsBounded self.old }
         requires is_true { IsTrueCache (D.universe provider.now) cache.old }
         requires encoding { IsEncodingOf (D.universe provider.now) (HasConstraint (D.universe provider.now) by version_set) (notes_in self.old) }
         ensures room { KeepsRoom self.old self.new }

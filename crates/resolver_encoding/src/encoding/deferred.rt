@@ -18,7 +18,7 @@ use resolver_clause_store::{
 use std::hash::Hash;
 
 impl<N: Copy + Eq + Hash + Drop, S: Copy + Eq + Hash + Drop> Encoding<N, S> {
-    ghost use Rattle.resolver_encoding.specs.Notes.{IsBounded, KeepsRoom, entry_of, notes_in};
+    ghost use Rattle.resolver_encoding.specs.Notes.{KeepsRoom, entry_of, notes_in};
 
     /// Notes the number of a deferred disjunct under the packages of its version sets.
     fn index_each<D: DependencyProvider<NameId = N, SolvableId = S>>(
@@ -27,7 +27,6 @@ impl<N: Copy + Eq + Hash + Drop, S: Copy + Eq + Hash + Drop> Encoding<N, S> {
         disjunct: &[VersionSetId],
         number: usize,
     ) -> Result<(), Exhausted>
-        requires bounded { IsBounded self.old }
         ensures room { KeepsRoom self.old self.new }
         ensures indexed { OnOk result (IsIndexing (D.universe provider.now) number disjunct.now (notes_in self.old) (notes_in self.new)) }
         ensures origins { (notes_in self.new).origins ≡ (notes_in self.old).origins }
@@ -49,7 +48,6 @@ impl<N: Copy + Eq + Hash + Drop, S: Copy + Eq + Hash + Drop> Encoding<N, S> {
         disjunct: Vec<VersionSetId>,
         requirement: Requirement,
     ) -> Result<(), Exhausted>
-        requires bounded { IsBounded self.old }
         requires once { AreDistinct disjunct.items }
         ensures room { KeepsRoom self.old self.new }
         ensures deferred { OnOk result
@@ -71,7 +69,6 @@ impl<N: Copy + Eq + Hash + Drop, S: Copy + Eq + Hash + Drop> Encoding<N, S> {
 
     /// Removes a disjunct and returns it, if it is still deferred.
     pub(super) fn take_out(&mut self, number: usize) -> Option<Entry<S>>
-        requires bounded { IsBounded self.old }
         ensures room { KeepsRoom self.old self.new }
         ensures some { IfSome result (λ entry. IsTakenOut number (entry_of entry) (notes_in self.old) (notes_in self.new)) }
         ensures none { IfNone result (notes_in self.new ≡ notes_in self.old) }
@@ -98,7 +95,7 @@ impl<N: Copy + Eq + Hash + Drop, S: Copy + Eq + Hash + Drop> Encoding<N, S> {
 }
 
 impl<N: Copy + Eq + Hash + Drop, S: Copy + Eq + Hash + Drop> Encoding<N, S> {
-    ghost use Rattle.resolver_encoding.specs.Notes.{IsBounded, KeepsRoom, notes_in};
+    ghost use Rattle.resolver_encoding.specs.Notes.{KeepsRoom, notes_in};
 
     /// Returns whether a disjunct is due: deferred, and met in the chosen set.
     fn is_due<D: DependencyProvider<NameId = N, SolvableId = S>>(
@@ -133,7 +130,6 @@ impl<N: Copy + Eq + Hash + Drop, S: Copy + Eq + Hash + Drop> Encoding<N, S> {
         chosen: &IndexSet<S>,
         number: usize,
     ) -> Result<(), Interrupted<D::Cancel>>
-        requires bounded { IsBounded self.old }
         requires is_true { IsTrueCache (D.universe provider.now) cache.old }
         requires encoding { IsEncodingOf (D.universe provider.now) (λ root. ⊤) (notes_in self.old) }
         requires met { HasMet (D.universe provider.now) chosen.now.keys (notes_in self.old) number }
@@ -166,7 +162,6 @@ impl<N: Copy + Eq + Hash + Drop, S: Copy + Eq + Hash + Drop> Encoding<N, S> {
         chosen: &IndexSet<S>,
         number: usize,
     ) -> Result<bool, Interrupted<D::Cancel>>
-        requires bounded { IsBounded self.old }
         requires is_true { IsTrueCache (D.universe provider.now) cache.old }
         requires encoding { IsEncodingOf (D.universe provider.now) (λ root. ⊤) (notes_in self.old) }
         ensures room { KeepsRoom self.old self.new }
@@ -191,7 +186,6 @@ impl<N: Copy + Eq + Hash + Drop, S: Copy + Eq + Hash + Drop> Encoding<N, S> {
         chosen: &IndexSet<S>,
         numbers: &[usize],
     ) -> Result<bool, Interrupted<D::Cancel>>
-        requires bounded { IsBounded self.old }
         requires is_true { IsTrueCache (D.universe provider.now) cache.old }
         requires encoding { IsEncodingOf (D.universe provider.now) (λ root. ⊤) (notes_in self.old) }
         ensures room { KeepsRoom self.old self.new }
@@ -216,7 +210,6 @@ impl<N: Copy + Eq + Hash + Drop, S: Copy + Eq + Hash + Drop> Encoding<N, S> {
         chosen: &IndexSet<S>,
         solvable: S,
     ) -> Result<bool, Interrupted<D::Cancel>>
-        requires bounded { IsBounded self.old }
         requires is_true { IsTrueCache (D.universe provider.now) cache.old }
         requires encoding { IsEncodingOf (D.universe provider.now) (λ root. ⊤) (notes_in self.old) }
         ensures room { KeepsRoom self.old self.new }
@@ -242,7 +235,6 @@ impl<N: Copy + Eq + Hash + Drop, S: Copy + Eq + Hash + Drop> Encoding<N, S> {
         chosen: &IndexSet<S>,
         from: usize,
     ) -> Result<bool, Interrupted<D::Cancel>>
-        requires bounded { IsBounded self.old }
         requires is_true { IsTrueCache (D.universe provider.now) cache.old }
         requires encoding { IsEncodingOf (D.universe provider.now) (λ root. ⊤) (notes_in self.old) }
         requires within { from ≤ length chosen.now.keys }

@@ -16,7 +16,7 @@ use resolver_clause_store::{
 use std::hash::Hash;
 
 impl<N: Copy + Eq + Hash + Drop, S: Copy + Eq + Hash + Drop> Encoding<N, S> {
-    ghost use Rattle.resolver_encoding.specs.Notes.{IsBounded, KeepsRoom, notes_in};
+    ghost use Rattle.resolver_encoding.specs.Notes.{KeepsRoom, notes_in};
 
     /// Makes the gate of a requirement, if it has none yet.
     pub(super) fn make_gate<D: DependencyProvider<NameId = N, SolvableId = S>>(
@@ -25,7 +25,6 @@ impl<N: Copy + Eq + Hash + Drop, S: Copy + Eq + Hash + Drop> Encoding<N, S> {
         requirement: Requirement,
         choices: &Choices<S>,
     ) -> Result<(), Exhausted>
-        requires bounded { IsBounded self.old }
         requires candidates { choices.now.candidates.items ≡ candidates_of (D.universe provider.now) requirement }
         requires small { All (λ n. n < 2 ^ 63) choices.now.counts.items }
         requires asked { All (λ v. Contains (notes_in self.old).asked ((D.universe provider.now).version_set_name v))
@@ -51,7 +50,6 @@ impl<N: Copy + Eq + Hash + Drop, S: Copy + Eq + Hash + Drop> Encoding<N, S> {
         requirer: S,
         requirement: Requirement,
     ) -> Result<(), Exhausted>
-        requires bounded { IsBounded self.old }
         ensures room { KeepsRoom self.old self.new }
         ensures step { OnOk result (IsStep (D.universe provider.now)
             (HasRequirement (D.universe provider.now) (BySolvable requirer) (record { condition = None; requirement = requirement })) (notes_in self.old)

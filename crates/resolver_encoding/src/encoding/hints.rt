@@ -73,7 +73,7 @@ fn is_out_of_reach<N: Copy + Eq + Hash + Drop, S: Copy + Eq + Hash + Drop>(
 }
 
 impl<N: Copy + Eq + Hash + Drop, S: Copy + Eq + Hash + Drop> Encoding<N, S> {
-    ghost use Rattle.resolver_encoding.specs.Notes.{IsBounded, KeepsRoom, notes_in};
+    ghost use Rattle.resolver_encoding.specs.Notes.{KeepsRoom, notes_in};
 
     /// Returns the solvable that a positive literal stands for, if any.
     fn stated(&self, literal: Literal) -> Option<S>
@@ -86,12 +86,7 @@ impl<N: Copy + Eq + Hash + Drop, S: Copy + Eq + Hash + Drop> Encoding<N, S> {
     }
 
     /// Lets a list have the literals of a clause in place of its own, none if there is no such clause.
-    fn read_clause(
-        &self,
-        number: usize,
-        guess: &mut usize,
-        literals: &mut Vec<Literal>,
-    ) -> Result<(), Exhausted>
+    fn read_clause(&self, number: usize, literals: &mut Vec<Literal>) -> Result<(), Exhausted>
         ensures literals { OnOk result (literals.new.items ≡ clause_at (notes_in self.now).table number) }
         ensures memory { IfErr result (λ e. e ≡ Exhausted.Memory) }
     {
@@ -100,24 +95,19 @@ impl<N: Copy + Eq + Hash + Drop, S: Copy + Eq + Hash + Drop> Encoding<N, S> {
             literals.clear();
             return Ok(());
         }
-        clauses.read_near(number, guess, literals)?;
+        clauses.read(number, literals)?;
         Ok(())
     }
 
     /// Lets a list have the literals of the requirement clause at a place in place of its own, none if there is no such
     /// place.
-    fn read_asking(
-        &self,
-        place: usize,
-        guess: &mut usize,
-        literals: &mut Vec<Literal>,
-    ) -> Result<(), Exhausted>
+    fn read_asking(&self, place: usize, literals: &mut Vec<Literal>) -> Result<(), Exhausted>
         ensures literals { OnOk result (literals.new.items ≡ literals_at (notes_in self.now) place) }
         ensures memory { IfErr result (λ e. e ≡ Exhausted.Memory) }
     {
         match self.table.requirements().get(place) {
             Some(asking) => {
-                self.read_clause(asking.number as usize, guess, literals)?;
+                self.read_clause(asking.number as usize, literals)?;
                 Ok(())
             }
             None => {
@@ -132,14 +122,13 @@ impl<N: Copy + Eq + Hash + Drop, S: Copy + Eq + Hash + Drop> Encoding<N, S> {
     fn listed_candidates(
         &self,
         place: usize,
-        guess: &mut usize,
         literals: &mut Vec<Literal>,
         mut candidates: Vec<S>,
     ) -> Result<Vec<S>, Exhausted>
         ensures candidates { IfOk result (λ list. list.items ≡ candidates_at (notes_in self.now) place) }
         ensures memory { IfErr result (λ e. e ≡ Exhausted.Memory) }
     {
-        self.read_asking(place, guess, literals)?;
+        self.read_asking(place, literals)?;
         candidates.clear();
         for literal in literals.iter() {
             push_found(&mut candidates, self.stated(*literal))?;
@@ -162,7 +151,6 @@ impl<N: Copy + Eq + Hash + Drop, S: Copy + Eq + Hash + Drop> Encoding<N, S> {
         chosen: &IndexSet<S>,
         candidate: S,
     ) -> Result<(), Interrupted<D::Cancel>>
-        requires bounded { IsBounded self.old }
         requires is_true { IsTrueCache (D.universe provider.now) cache.old }
         requires half { IsHalfReading (D.universe provider.now) (notes_in self.old) }
         requires seen { Contains (notes_in self.old).seen candidate }
@@ -193,7 +181,6 @@ impl<N: Copy + Eq + Hash + Drop, S: Copy + Eq + Hash + Drop> Encoding<N, S> {
         hintless: Option<N>,
         candidate: S,
     ) -> Result<Option<N>, Interrupted<D::Cancel>>
-        requires bounded { IsBounded self.old }
         requires is_true { IsTrueCache (D.universe provider.now) cache.old }
         requires half { IsHalfReading (D.universe provider.now) (notes_in self.old) }
         requires seen { Contains (notes_in self.old).seen candidate }
@@ -231,7 +218,6 @@ impl<N: Copy + Eq + Hash + Drop, S: Copy + Eq + Hash + Drop> Encoding<N, S> {
         place: usize,
         candidates: &[S],
     ) -> Result<(), Interrupted<D::Cancel>>
-        requires bounded { IsBounded self.old }
         requires is_true { IsTrueCache (D.universe provider.now) cache.old }
         requires half { IsHalfReading (D.universe provider.now) (notes_in self.old) }
         requires listed { candidates.now ≡ candidates_at (notes_in self.old) place }
@@ -258,10 +244,8 @@ impl<N: Copy + Eq + Hash + Drop, S: Copy + Eq + Hash + Drop> Encoding<N, S> {
         cache: &mut Cache<N, S>,
         chosen: &IndexSet<S>,
         place: usize,
-        guess: &mut usize,
         literals: &mut Vec<Literal>,
     ) -> Result<(), Interrupted<D::Cancel>>
-        requires bounded { IsBounded self.old }
         requires is_true { IsTrueCache (D.universe provider.now) cache.old }
         requires half { IsHalfReading (D.universe provider.now) (notes_in self.old) }
         requires within { place < length (notes_in self.old).requirements }
@@ -273,7 +257,7 @@ impl<N: Copy + Eq + Hash + Drop, S: Copy + Eq + Hash + Drop> Encoding<N, S> {
         ensures refusal { IfErr result (IsStop (D.may_cancel provider.now) (IsFull (notes_in self.new))) }
     {
         let list = replace(&mut self.spare, Vec::new(self.alloc));
-        let candidates = self.listed_candidates(place, guess, literals, list)?;
+        let candidates = self.listed_candidates(place, literals, list)?;
         self.read_candidates(provider, cache, chosen, place, &candidates)?;
         self.spare = candidates;
         Ok(())
@@ -290,7 +274,6 @@ impl<N: Copy + Eq + Hash + Drop, S: Copy + Eq + Hash + Drop> Encoding<N, S> {
         from: usize,
         until: usize,
     ) -> Result<bool, Interrupted<D::Cancel>>
-        requires bounded { IsBounded self.old }
         requires is_true { IsTrueCache (D.universe provider.now) cache.old }
         requires half { IsHalfReading (D.universe provider.now) (notes_in self.old) }
         requires within { until ≤ length (notes_in self.old).requirements }
@@ -304,10 +287,10 @@ impl<N: Copy + Eq + Hash + Drop, S: Copy + Eq + Hash + Drop> Encoding<N, S> {
     {
         let before = self.read.len();
         let mut literals = Vec::new(self.alloc);
-        let mut guess = 0;
         for place in from..until {
-            self.read_hinted_at(provider, cache, chosen, place, &mut guess, &mut literals)?;
+            self.read_hinted_at(provider, cache, chosen, place, &mut literals)?;
         }
+        self.table.variables.are_within_limit();
         if before < self.read.len() {
             return Ok(true);
         }
@@ -325,7 +308,6 @@ impl<N: Copy + Eq + Hash + Drop, S: Copy + Eq + Hash + Drop> Encoding<N, S> {
         chosen: &IndexSet<S>,
         from: usize,
     ) -> Result<bool, Interrupted<D::Cancel>>
-        requires bounded { IsBounded self.old }
         requires is_true { IsTrueCache (D.universe provider.now) cache.old }
         requires half { IsHalfReading (D.universe provider.now) (notes_in self.old) }
         requires within { from ≤ length (notes_in self.old).requirements }

@@ -17,7 +17,7 @@ use resolver_clause_store::{
 use std::hash::Hash;
 
 impl<N: Copy + Eq + Hash + Drop, S: Copy + Eq + Hash + Drop> Encoding<N, S> {
-    ghost use Rattle.resolver_encoding.specs.Notes.{IsBounded, KeepsRoom, notes_in};
+    ghost use Rattle.resolver_encoding.specs.Notes.{KeepsRoom, notes_in};
 
     /// Forbids a listed candidate if another one is locked, unless it is exempt.
     pub(super) fn lock_out<D: DependencyProvider<NameId = N, SolvableId = S>>(
@@ -27,7 +27,6 @@ impl<N: Copy + Eq + Hash + Drop, S: Copy + Eq + Hash + Drop> Encoding<N, S> {
         locked: S,
         candidate: S,
     ) -> Result<(), Exhausted>
-        requires bounded { IsBounded self.old }
         requires named { (D.universe provider.now).name candidate ≡ name }
         requires lock { ((D.universe provider.now).package_named name).locked ≡ Some locked }
         requires listed { Contains ((D.universe provider.now).package_named name).listed candidate }
@@ -61,7 +60,6 @@ impl<N: Copy + Eq + Hash + Drop, S: Copy + Eq + Hash + Drop> Encoding<N, S> {
         listed: &[S],
         locked: Option<S>,
     ) -> Result<(), Exhausted>
-        requires bounded { IsBounded self.old }
         requires listed { listed.now ≡ ((D.universe provider.now).package_named name).listed }
         requires locked { locked ≡ ((D.universe provider.now).package_named name).locked }
         ensures room { KeepsRoom self.old self.new }
@@ -88,7 +86,6 @@ impl<N: Copy + Eq + Hash + Drop, S: Copy + Eq + Hash + Drop> Encoding<N, S> {
         solvable: S,
         reason: StringId,
     ) -> Result<(), Exhausted>
-        requires bounded { IsBounded self.old }
         requires named { (D.universe provider.now).name solvable ≡ name }
         requires excluded { Contains ((D.universe provider.now).package_named name).excluded (solvable, reason) }
         ensures room { KeepsRoom self.old self.new }
@@ -114,7 +111,6 @@ impl<N: Copy + Eq + Hash + Drop, S: Copy + Eq + Hash + Drop> Encoding<N, S> {
         name: N,
         excluded: &[(S, StringId)],
     ) -> Result<(), Exhausted>
-        requires bounded { IsBounded self.old }
         requires excluded { excluded.now ≡ ((D.universe provider.now).package_named name).excluded }
         ensures room { KeepsRoom self.old self.new }
         ensures step { OnOk result (IsStepWhile (D.universe provider.now) (asking_for name) (λ root. ⊤) (notes_in self.old) (notes_in self.new)) }
@@ -141,9 +137,7 @@ impl<N: Copy + Eq + Hash + Drop, S: Copy + Eq + Hash + Drop> Encoding<N, S> {
         cache: &mut Cache<N, S>,
         name: N,
     ) -> Result<(), Interrupted<D::Cancel>>
-        requires bounded { IsBounded self.old }
         requires is_true { IsTrueCache (D.universe provider.now) cache.old }
-        ensures bounded { IsBounded self.new }
         ensures is_true { IsTrueCache (D.universe provider.now) cache.new }
         ensures step { OnOk result (IsAskStep (D.universe provider.now) (IsAsking name) (λ root. ⊤) (notes_in self.old) (notes_in self.new)) }
         ensures alone { OnOk result (AsksOnly (D.universe provider.now) name (notes_in self.old) (notes_in self.new)) }
@@ -169,7 +163,6 @@ impl<N: Copy + Eq + Hash + Drop, S: Copy + Eq + Hash + Drop> Encoding<N, S> {
         cache: &mut Cache<N, S>,
         named: &[VersionSetId],
     ) -> Result<(), Interrupted<D::Cancel>>
-        requires bounded { IsBounded self.old }
         requires is_true { IsTrueCache (D.universe provider.now) cache.old }
         ensures room { KeepsRoom self.old self.new }
         ensures is_true { IsTrueCache (D.universe provider.now) cache.new }
@@ -191,7 +184,6 @@ impl<N: Copy + Eq + Hash + Drop, S: Copy + Eq + Hash + Drop> Encoding<N, S> {
         cache: &mut Cache<N, S>,
         requirement: Requirement,
     ) -> Result<(), Interrupted<D::Cancel>>
-        requires bounded { IsBounded self.old }
         requires is_true { IsTrueCache (D.universe provider.now) cache.old }
         ensures room { KeepsRoom self.old self.new }
         ensures is_true { IsTrueCache (D.universe provider.now) cache.new }

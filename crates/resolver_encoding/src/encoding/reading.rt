@@ -43,7 +43,7 @@ fn progress_of(read: bool, fired: bool) -> Progress
 }
 
 impl<N: Copy + Eq + Hash + Drop, S: Copy + Eq + Hash + Drop> Encoding<N, S> {
-    ghost use Rattle.resolver_encoding.specs.Notes.{IsBounded, KeepsRoom, notes_in};
+    ghost use Rattle.resolver_encoding.specs.Notes.{KeepsRoom, notes_in};
 
     /// Forbids a solvable whose dependencies are unknown.
     fn forbid_unknown<D: DependencyProvider<NameId = N, SolvableId = S>>(
@@ -52,7 +52,6 @@ impl<N: Copy + Eq + Hash + Drop, S: Copy + Eq + Hash + Drop> Encoding<N, S> {
         solvable: S,
         reason: StringId,
     ) -> Result<(), Exhausted>
-        requires bounded { IsBounded self.old }
         requires unknown { (D.universe provider.now).needs solvable ≡ unknown reason }
         ensures room { KeepsRoom self.old self.new }
         ensures step { OnOk result (IsStep (D.universe provider.now) (λ root. ⊤) (notes_in self.old) (notes_in self.new)) }
@@ -70,7 +69,6 @@ impl<N: Copy + Eq + Hash + Drop, S: Copy + Eq + Hash + Drop> Encoding<N, S> {
         cache: &mut Cache<N, S>,
         requirement: ConditionalRequirement,
     ) -> Result<(), Interrupted<D::Cancel>>
-        requires bounded { IsBounded self.old }
         requires is_true { IsTrueCache (D.universe provider.now) cache.old }
         ensures room { KeepsRoom self.old self.new }
         ensures is_true { IsTrueCache (D.universe provider.now) cache.new }
@@ -94,7 +92,6 @@ impl<N: Copy + Eq + Hash + Drop, S: Copy + Eq + Hash + Drop> Encoding<N, S> {
         cache: &mut Cache<N, S>,
         requirements: &[ConditionalRequirement],
     ) -> Result<(), Interrupted<D::Cancel>>
-        requires bounded { IsBounded self.old }
         requires is_true { IsTrueCache (D.universe provider.now) cache.old }
         ensures room { KeepsRoom self.old self.new }
         ensures is_true { IsTrueCache (D.universe provider.now) cache.new }
@@ -118,7 +115,6 @@ impl<N: Copy + Eq + Hash + Drop, S: Copy + Eq + Hash + Drop> Encoding<N, S> {
         by: By<S>,
         requirements: &[ConditionalRequirement],
     ) -> Result<(), Interrupted<D::Cancel>>
-        requires bounded { IsBounded self.old }
         requires is_true { IsTrueCache (D.universe provider.now) cache.old }
         requires encoding { IsEncodingOf (D.universe provider.now) (λ root. All (λ r. HasRequirement (D.universe provider.now) by r root) requirements.now)
             (notes_in self.old) }
@@ -145,7 +141,6 @@ impl<N: Copy + Eq + Hash + Drop, S: Copy + Eq + Hash + Drop> Encoding<N, S> {
         by: By<S>,
         constraints: &[VersionSetId],
     ) -> Result<(), Interrupted<D::Cancel>>
-        requires bounded { IsBounded self.old }
         requires is_true { IsTrueCache (D.universe provider.now) cache.old }
         requires encoding { IsEncodingOf (D.universe provider.now) (λ root. All (λ v. HasConstraint (D.universe provider.now) by v root) constraints.now)
             (notes_in self.old) }
@@ -175,7 +170,6 @@ impl<N: Copy + Eq + Hash + Drop, S: Copy + Eq + Hash + Drop> Encoding<N, S> {
         requirements: &[ConditionalRequirement],
         constraints: &[VersionSetId],
     ) -> Result<(), Interrupted<D::Cancel>>
-        requires bounded { IsBounded self.old }
         requires is_true { IsTrueCache (D.universe provider.now) cache.old }
         requires encoding { IsEncodingOf (D.universe provider.now) (λ root.
             demands_by (D.universe provider.now) root by ≡ (record { requirements = requirements.now; constraints = constraints.now })) (notes_in self.old) }
@@ -204,7 +198,6 @@ impl<N: Copy + Eq + Hash + Drop, S: Copy + Eq + Hash + Drop> Encoding<N, S> {
         chosen: &IndexSet<S>,
         solvable: S,
     ) -> Result<(), Interrupted<D::Cancel>>
-        requires bounded { IsBounded self.old }
         requires is_true { IsTrueCache (D.universe provider.now) cache.old }
         requires encoding { IsEncodingOf (D.universe provider.now) (λ root. ⊤) (notes_in self.old) }
         ensures room { KeepsRoom self.old self.new }
@@ -239,7 +232,6 @@ impl<N: Copy + Eq + Hash + Drop, S: Copy + Eq + Hash + Drop> Encoding<N, S> {
         chosen: &IndexSet<S>,
         solvable: S,
     ) -> Result<(), Interrupted<D::Cancel>>
-        requires bounded { IsBounded self.old }
         requires is_true { IsTrueCache (D.universe provider.now) cache.old }
         requires encoding { IsEncodingOf (D.universe provider.now) (λ root. ⊤) (notes_in self.old) }
         requires known { Contains (notes_in self.old).origins (SolvableOrigin solvable) }
@@ -266,7 +258,6 @@ impl<N: Copy + Eq + Hash + Drop, S: Copy + Eq + Hash + Drop> Encoding<N, S> {
         chosen: &IndexSet<S>,
         from: usize,
     ) -> Result<bool, Interrupted<D::Cancel>>
-        requires bounded { IsBounded self.old }
         requires is_true { IsTrueCache (D.universe provider.now) cache.old }
         requires half { IsHalfReading (D.universe provider.now) (notes_in self.old) }
         requires known { All (λ s. Contains (notes_in self.old).origins (SolvableOrigin s)) chosen.now.keys }
@@ -297,7 +288,6 @@ impl<N: Copy + Eq + Hash + Drop, S: Copy + Eq + Hash + Drop> Encoding<N, S> {
         &mut self,
         provider: &D,
     ) -> Result<(), Exhausted>
-        requires bounded { IsBounded self.old }
         requires nothing_read { IsUnread (notes_in self.old) }
         ensures room { KeepsRoom self.old self.new }
         ensures installed { OnOk result ((root : Demands) → IsEncoding (D.universe provider.now) root (notes_in self.new)) }
@@ -322,10 +312,8 @@ impl<N: Copy + Eq + Hash + Drop, S: Copy + Eq + Hash + Drop> Encoding<N, S> {
         requirements: &[ConditionalRequirement],
         constraints: &[VersionSetId],
     ) -> Result<(), Interrupted<D::Cancel>>
-        requires bounded { IsBounded self.old }
         requires is_true { IsTrueCache (D.universe provider.now) cache.old }
         requires nothing_read { IsUnread (notes_in self.old) }
-        ensures bounded { IsBounded self.new }
         ensures is_true { IsTrueCache (D.universe provider.now) cache.new }
         ensures read { OnOk result (IsReadSoFar (D.universe provider.now) (record { requirements = requirements.now; constraints = constraints.now }) []
             (notes_in self.new)) }
@@ -359,12 +347,10 @@ impl<N: Copy + Eq + Hash + Drop, S: Copy + Eq + Hash + Drop> Encoding<N, S> {
         chosen: &IndexSet<S>,
         from: usize,
     ) -> Result<Progress, Interrupted<D::Cancel>>
-        requires bounded { IsBounded self.old }
         requires is_true { IsTrueCache (D.universe provider.now) cache.old }
         requires reading { IsReading (D.universe provider.now) (take from chosen.now.keys) (notes_in self.old) }
         requires known { All (λ s. Contains (notes_in self.old).origins (SolvableOrigin s)) chosen.now.keys }
         requires within { from ≤ length chosen.now.keys }
-        ensures bounded { IsBounded self.new }
         ensures is_true { IsTrueCache (D.universe provider.now) cache.new }
         ensures read { OnOk result ((root : Demands) → IsReadSoFar (D.universe provider.now) root (take from chosen.now.keys) (notes_in self.old) →
             IsReadSoFar (D.universe provider.now) root chosen.now.keys (notes_in self.new)) }

@@ -41,7 +41,7 @@ fn plain_requirer<S: Copy>(by: By<S>, condition: Option<ConditionId>) -> Option<
 }
 
 impl<N: Copy + Eq + Hash + Drop, S: Copy + Eq + Hash + Drop> Encoding<N, S> {
-    ghost use Rattle.resolver_encoding.specs.Notes.{IsBounded, KeepsRoom, notes_in};
+    ghost use Rattle.resolver_encoding.specs.Notes.{KeepsRoom, notes_in};
 
     /// Encodes a requirement under a disjunct of its condition, with candidates that are registered.
     #[inline(always)]
@@ -54,7 +54,6 @@ impl<N: Copy + Eq + Hash + Drop, S: Copy + Eq + Hash + Drop> Encoding<N, S> {
         requirement: Requirement,
         choices: &Choices<S>,
     ) -> Result<(), Interrupted<D::Cancel>>
-        requires bounded { IsBounded self.old }
         requires is_true { IsTrueCache (D.universe provider.now) cache.old }
         requires candidates { choices.now.candidates.items ≡ candidates_of (D.universe provider.now) requirement }
         requires small { All (λ n. n < 2 ^ 63) choices.now.counts.items }
@@ -86,7 +85,6 @@ impl<N: Copy + Eq + Hash + Drop, S: Copy + Eq + Hash + Drop> Encoding<N, S> {
         cache: &mut Cache<N, S>,
         requirement: Requirement,
     ) -> Result<Choices<S>, Interrupted<D::Cancel>>
-        requires bounded { IsBounded self.old }
         requires is_true { IsTrueCache (D.universe provider.now) cache.old }
         ensures room { KeepsRoom self.old self.new }
         ensures is_true { IsTrueCache (D.universe provider.now) cache.new }
@@ -115,7 +113,6 @@ impl<N: Copy + Eq + Hash + Drop, S: Copy + Eq + Hash + Drop> Encoding<N, S> {
         disjunct: Vec<VersionSetId>,
         requirement: Requirement,
     ) -> Result<(), Interrupted<D::Cancel>>
-        requires bounded { IsBounded self.old }
         requires is_true { IsTrueCache (D.universe provider.now) cache.old }
         requires once { AreDistinct disjunct.items }
         ensures room { KeepsRoom self.old self.new }
@@ -142,7 +139,6 @@ impl<N: Copy + Eq + Hash + Drop, S: Copy + Eq + Hash + Drop> Encoding<N, S> {
         requirement: ConditionalRequirement,
         disjunct: &[VersionSetId],
     ) -> Result<(), Interrupted<D::Cancel>>
-        requires bounded { IsBounded self.old }
         requires is_true { IsTrueCache (D.universe provider.now) cache.old }
         requires disjunct { IsDisjunctOf (D.universe provider.now) requirement.condition disjunct.now }
         ensures room { KeepsRoom self.old self.new }
@@ -173,7 +169,6 @@ impl<N: Copy + Eq + Hash + Drop, S: Copy + Eq + Hash + Drop> Encoding<N, S> {
         requirement: ConditionalRequirement,
         disjuncts: &[Vec<VersionSetId>],
     ) -> Result<(), Interrupted<D::Cancel>>
-        requires bounded { IsBounded self.old }
         requires is_true { IsTrueCache (D.universe provider.now) cache.old }
         requires disjuncts { AreDisjuncts (D.universe provider.now) requirement.condition (map (λ list. list.items) disjuncts.now) }
         ensures room { KeepsRoom self.old self.new }
@@ -199,7 +194,6 @@ impl<N: Copy + Eq + Hash + Drop, S: Copy + Eq + Hash + Drop> Encoding<N, S> {
         by: By<S>,
         requirement: ConditionalRequirement,
     ) -> Result<(), Interrupted<D::Cancel>>
-        requires bounded { IsBounded self.old }
         requires is_true { IsTrueCache (D.universe provider.now) cache.old }
         ensures room { KeepsRoom self.old self.new }
         ensures is_true { IsTrueCache (D.universe provider.now) cache.new }
@@ -222,7 +216,6 @@ impl<N: Copy + Eq + Hash + Drop, S: Copy + Eq + Hash + Drop> Encoding<N, S> {
         requirer: S,
         requirement: Requirement,
     ) -> Result<(), Interrupted<D::Cancel>>
-        requires bounded { IsBounded self.old }
         requires is_true { IsTrueCache (D.universe provider.now) cache.old }
         requires encoding { IsEncodingOf (D.universe provider.now)
             (HasRequirement (D.universe provider.now) (BySolvable requirer) (record { condition = None; requirement = requirement })) (notes_in self.old) }
@@ -261,7 +254,6 @@ impl<N: Copy + Eq + Hash + Drop, S: Copy + Eq + Hash + Drop> Encoding<N, S> {
         by: By<S>,
         requirement: ConditionalRequirement,
     ) -> Result<(), Interrupted<D::Cancel>>
-        requires bounded { IsBounded self.old }
         requires is_true { IsTrueCache (D.universe provider.now) cache.old }
         requires encoding { IsEncodingOf (D.universe provider.now) (HasRequirement (D.universe provider.now) by requirement) (notes_in self.old) }
         ensures room { KeepsRoom self.old self.new }

@@ -17,7 +17,7 @@ use resolver_clause_store::{
 use std::hash::Hash;
 
 impl<N: Copy + Eq + Hash + Drop, S: Copy + Eq + Hash + Drop> Encoding<N, S> {
-    ghost use Rattle.resolver_encoding.specs.Notes.{IsBounded, KeepsRoom, notes_in};
+    ghost use Rattle.resolver_encoding.specs.Notes.{KeepsRoom, notes_in};
 
     /// Returns the solvables that are exempt from locks and exclusions, in the order in which they became exempt.
     pub fn exempt(&self) -> &[S]
@@ -34,15 +34,13 @@ impl<N: Copy + Eq + Hash + Drop, S: Copy + Eq + Hash + Drop> Encoding<N, S> {
         provider: &D,
         solvable: S,
     ) -> Result<Variable, Exhausted>
-        requires bounded { IsBounded self.old }
-        ensures bounded { IsBounded self.new }
         ensures registered { OnOk result (IsRegistered (D.universe provider.now) solvable (notes_in self.old) (notes_in self.new)) }
         ensures variable { IfOk result (λ v. slice_get (notes_in self.new).origins v ≡ Some (SolvableOrigin solvable)) }
         ensures limits { KeepsLimits (notes_in self.old) (notes_in self.new) }
         ensures refusal { IfErr result (IsShortage (IsFull (notes_in self.new))) }
     {
         let variable = self.table.variables.intern(Origin::Solvable(solvable))?;
-        self.see(provider, solvable, usize::MAX, usize::MAX)?;
+        self.see(provider, solvable)?;
         Ok(variable)
     }
 
@@ -54,8 +52,6 @@ impl<N: Copy + Eq + Hash + Drop, S: Copy + Eq + Hash + Drop> Encoding<N, S> {
         provider: &D,
         solvable: S,
     ) -> Result<(), Exhausted>
-        requires bounded { IsBounded self.old }
-        ensures bounded { IsBounded self.new }
         ensures only { notes_in self.new ≡ record (notes_in self.old) { exempt = (notes_in self.new).exempt } }
         ensures few { length (notes_in self.new).exempt ≤ length (notes_in self.old).exempt + 1 }
         ensures exempts { OnOk result ((Contains (notes_in self.old).exempt solvable → ⊥) →
@@ -83,7 +79,6 @@ impl<N: Copy + Eq + Hash + Drop, S: Copy + Eq + Hash + Drop> Encoding<N, S> {
         locked: Option<S>,
         solvable: S,
     ) -> Result<(), Exhausted>
-        requires bounded { IsBounded self.old }
         requires named { (D.universe provider.now).name solvable ≡ name }
         requires asked { Contains (notes_in self.old).asked name }
         requires listed { listed.now ≡ ((D.universe provider.now).package_named name).listed }
@@ -114,7 +109,6 @@ impl<N: Copy + Eq + Hash + Drop, S: Copy + Eq + Hash + Drop> Encoding<N, S> {
         reason: StringId,
         solvable: S,
     ) -> Result<(), Exhausted>
-        requires bounded { IsBounded self.old }
         requires named { (D.universe provider.now).name excluded ≡ name }
         requires asked { Contains (notes_in self.old).asked name }
         requires excluded { Contains ((D.universe provider.now).package_named name).excluded (excluded, reason) }
@@ -140,7 +134,6 @@ impl<N: Copy + Eq + Hash + Drop, S: Copy + Eq + Hash + Drop> Encoding<N, S> {
         excluded: &[(S, StringId)],
         solvable: S,
     ) -> Result<(), Exhausted>
-        requires bounded { IsBounded self.old }
         requires asked { Contains (notes_in self.old).asked name }
         requires excluded { excluded.now ≡ ((D.universe provider.now).package_named name).excluded }
         ensures room { KeepsRoom self.old self.new }
@@ -163,7 +156,6 @@ impl<N: Copy + Eq + Hash + Drop, S: Copy + Eq + Hash + Drop> Encoding<N, S> {
         cache: &mut Cache<N, S>,
         solvable: S,
     ) -> Result<(), Interrupted<D::Cancel>>
-        requires bounded { IsBounded self.old }
         requires is_true { IsTrueCache (D.universe provider.now) cache.old }
         ensures room { KeepsRoom self.old self.new }
         ensures is_true { IsTrueCache (D.universe provider.now) cache.new }
@@ -200,10 +192,8 @@ impl<N: Copy + Eq + Hash + Drop, S: Copy + Eq + Hash + Drop> Encoding<N, S> {
         cache: &mut Cache<N, S>,
         exempt_before: usize,
     ) -> Result<(), Interrupted<D::Cancel>>
-        requires bounded { IsBounded self.old }
         requires is_true { IsTrueCache (D.universe provider.now) cache.old }
         requires one_turn { length (notes_in self.old).exempt ≤ exempt_before + 1 }
-        ensures bounded { IsBounded self.new }
         ensures is_true { IsTrueCache (D.universe provider.now) cache.new }
         ensures ended { OnOk result (IsTurnEnd (D.universe provider.now) (notes_in self.old) (notes_in self.new)) }
         ensures exempt { OnOk result ((notes_in self.new).exempt ≡ take exempt_before (notes_in self.old).exempt) }

@@ -8,7 +8,7 @@ ghost use Rattle.resolver_clause_store.specs.Laws.{IsIdentity};
 ghost use Rattle.resolver_clause_store.specs.Variables.{origins_in};
 ghost use Rattle.resolver_clause_store.specs.declared.Origin.TheVariants.{Solvable as SolvableOrigin};
 ghost use Rattle.resolver_encoding.specs.Encodings.{IsUnread};
-ghost use Rattle.resolver_encoding.specs.Notes.{IsBounded, notes_in};
+ghost use Rattle.resolver_encoding.specs.Notes.{notes_in};
 ghost use Rattle.resolver_encoding.specs.SoFar.{IsReading};
 ghost use Rattle.resolvo.specs.TestProvider.{test_universe};
 
@@ -88,9 +88,7 @@ fn spare<
     S: Copy + Eq + Hash + Drop,
     D: DependencyProvider<NameId = N, SolvableId = S>,
 >(encoding: &mut Encoding<N, S>, provider: &D, exempt: Option<S>) -> Result<(), Exhausted>
-    requires bounded { IsBounded encoding.old }
     requires nothing_read { IsUnread (notes_in encoding.old) }
-    ensures bounded { IsBounded encoding.new }
     ensures nothing_read { OnOk result (IsUnread (notes_in encoding.new)) }
     ensures memory { IfErr result (λ e. e ≡ Exhausted.Memory) }
 {
@@ -203,10 +201,8 @@ fn read_given<
     cache: &mut Cache<N, S>,
     given: &[S],
 ) -> Result<Progress, Interrupted<D::Cancel>>
-    requires bounded { IsBounded encoding.old }
     requires is_true { IsTrueCache (D.universe provider.now) cache.old }
     requires reading { IsReading (D.universe provider.now) [] (notes_in encoding.old) }
-    ensures bounded { IsBounded encoding.new }
     ensures is_true { IsTrueCache (D.universe provider.now) cache.new }
     ensures reading { OnOk result (IsReading (D.universe provider.now) [] (notes_in encoding.new)) }
 {
@@ -226,10 +222,8 @@ fn read_known<
     provider: &D,
     cache: &mut Cache<N, S>,
 ) -> Result<Progress, Interrupted<D::Cancel>>
-    requires bounded { IsBounded encoding.old }
     requires is_true { IsTrueCache (D.universe provider.now) cache.old }
     requires reading { IsReading (D.universe provider.now) [] (notes_in encoding.old) }
-    ensures bounded { IsBounded encoding.new }
     ensures is_true { IsTrueCache (D.universe provider.now) cache.new }
     ensures reading { OnOk result (IsReading (D.universe provider.now) [] (notes_in encoding.new)) }
 {
@@ -251,7 +245,6 @@ fn read<
     exempt: Option<S>,
     requirements: &[ConditionalRequirement],
 ) -> Result<(), Interrupted<D::Cancel>>
-    requires bounded { IsBounded encoding.old }
     requires is_true { IsTrueCache (D.universe provider.now) cache.old }
     requires nothing_read { IsUnread (notes_in encoding.old) }
     ensures { IsTrueCache (D.universe provider.now) cache.new }
@@ -277,10 +270,8 @@ fn is_asked<
     cache: &mut Cache<N, S>,
     solvable: S,
 ) -> Result<bool, Interrupted<D::Cancel>>
-    requires bounded { IsBounded encoding.old }
     requires is_true { IsTrueCache (D.universe provider.now) cache.old }
     requires reading { IsReading (D.universe provider.now) [] (notes_in encoding.old) }
-    ensures bounded { IsBounded encoding.new }
     ensures is_true { IsTrueCache (D.universe provider.now) cache.new }
     ensures reading { OnOk result (IsReading (D.universe provider.now) [] (notes_in encoding.new)) }
 {
@@ -297,11 +288,9 @@ fn asked_count(
     provider: &TestProvider,
     cache: &mut Cache<u32, u32>,
 ) -> Result<usize, Interrupted<u8>>
-    requires bounded { IsBounded encoding.old }
     requires is_true { IsTrueCache (test_universe provider.now.endless provider.now.requirements.items provider.now.constraints.items) cache.old }
     requires reading { IsReading (test_universe provider.now.endless provider.now.requirements.items provider.now.constraints.items) []
         (notes_in encoding.old) }
-    ensures bounded { IsBounded encoding.new }
     ensures is_true { IsTrueCache (test_universe provider.now.endless provider.now.requirements.items provider.now.constraints.items) cache.new }
     ensures reading { OnOk result (IsReading (test_universe provider.now.endless provider.now.requirements.items provider.now.constraints.items) []
         (notes_in encoding.new)) }
@@ -322,7 +311,6 @@ fn rounds_of(
     requirements: &[ConditionalRequirement],
     turns: &[&[u32]],
 ) -> Result<Vec<Round>, Interrupted<u8>>
-    requires bounded { IsBounded encoding.old }
     requires is_true { IsTrueCache (test_universe provider.now.endless provider.now.requirements.items provider.now.constraints.items) cache.old }
     requires nothing_read { IsUnread (notes_in encoding.old) }
     ensures { IsTrueCache (test_universe provider.now.endless provider.now.requirements.items provider.now.constraints.items) cache.new }
@@ -344,10 +332,7 @@ fn register_all<
     N: Copy + Eq + Hash + Drop,
     S: Copy + Eq + Hash + Drop,
     D: DependencyProvider<NameId = N, SolvableId = S>,
->(encoding: &mut Encoding<N, S>, provider: &D, solvables: &[S]) -> Result<(), Exhausted>
-    requires { IsBounded encoding.old }
-    ensures { IsBounded encoding.new }
-{
+>(encoding: &mut Encoding<N, S>, provider: &D, solvables: &[S]) -> Result<(), Exhausted> {
     for solvable in solvables {
         encoding.register(provider, *solvable)?;
     }
@@ -451,7 +436,6 @@ fn are_done(
     cache: &mut Cache<u32, u32>,
     case: &Case<'_>,
 ) -> bool
-    requires bounded { IsBounded encoding.old }
     requires is_true { IsTrueCache (test_universe provider.now.endless provider.now.requirements.items provider.now.constraints.items) cache.old }
     requires nothing_read { IsUnread (notes_in encoding.old) }
     ensures { IsTrueCache (test_universe provider.now.endless provider.now.requirements.items provider.now.constraints.items) cache.new }

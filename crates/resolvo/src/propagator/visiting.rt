@@ -3,10 +3,10 @@
 ghost use Rattle.std.specs.Prelude.{◌≡◌, ◌≢◌, ◌+◌, ◌<◌, ◌≤◌, ◌++◌, ◌∷◌, [], false, true, All, Contains, IfNone, IfOk, IfSome, List, MatchOption, None, OnErr, OnOk, Some, if◌then◌else◌, length};
 ghost use Rattle.resolver_clause_store.specs.Formula.{AreBelow, IsBelow, clause_at};
 ghost use Rattle.resolver_clause_store.specs.Outcomes.{IsSatisfied};
-ghost use Rattle.resolver_clause_store.specs.TrailView.{length_of, literal_value, open_count, variable_count};
+ghost use Rattle.resolver_clause_store.specs.TrailView.{length_of, literal_value, variable_count};
 ghost use Rattle.resolver_clause_store.specs.declared.Literal.{Literal};
 ghost use Rattle.resolver_clause_store.specs.declared.Watch.{Watch};
-ghost use Rattle.resolvo.specs.Propagation.{Extends, IsConflict, IsJustified, IsUnit};
+ghost use Rattle.resolvo.specs.Propagation.{IsConflict, IsJustified, IsUnit, Propagates};
 ghost use Rattle.resolver_clause_store.specs.Settled.{AllSettled};
 ghost use Rattle.resolvo.specs.Propagators.{IsAttached, IsPropagator};
 ghost use Rattle.resolvo.specs.Visits.{FailsAt, IsPaired, IsPlaced, IsVisiting, WatchOutcomeIs, ReplacesAt, StandsAt};
@@ -226,11 +226,7 @@ impl Propagator {
         requires not_true { literal_value trail.old watcher.now.other ≢ Some true }
         ensures outcome { IfOk result (WatchOutcomeIs table.now trail.new self.old self.new falsified.now watcher.now.placed.place) }
         ensures refused { OnErr result (AreOwned table.now (pairs_of self.new.watches)) }
-        ensures justified { IsJustified table.now trail.new }
-        ensures extends { Extends trail.old trail.new }
-        ensures size { variable_count trail.new ≡ variable_count trail.old }
-        ensures open_ones { open_count trail.new ≤ open_count trail.old }
-        ensures total { open_count trail.new + length_of trail.new ≡ open_count trail.old + length_of trail.old }
+        ensures propagates { Propagates table.now trail.old trail.new }
     {
         let number = watcher.placed.watch.number as usize;
         match trail.value(watcher.other) {
@@ -262,11 +258,7 @@ impl Propagator {
         requires not_true { literal_value trail.old watcher.now.other ≢ Some true }
         ensures outcome { IfOk result (WatchOutcomeIs table.now trail.new self.old self.new falsified.now watcher.now.placed.place) }
         ensures refused { OnErr result (AreOwned table.now (pairs_of self.new.watches)) }
-        ensures justified { IsJustified table.now trail.new }
-        ensures extends { Extends trail.old trail.new }
-        ensures size { variable_count trail.new ≡ variable_count trail.old }
-        ensures open_ones { open_count trail.new ≤ open_count trail.old }
-        ensures total { open_count trail.new + length_of trail.new ≡ open_count trail.old + length_of trail.old }
+        ensures propagates { Propagates table.now trail.old trail.new }
     {
         let watch = watcher.placed.watch;
         let literals = clause(table, watch.number as usize);
@@ -309,11 +301,7 @@ impl Propagator {
         requires watching { IsWatching (pairs_of self.old.watches) placed.now.watch.number falsified.now.literal }
         ensures outcome { IfOk result (WatchOutcomeIs table.now trail.new self.old self.new falsified.now placed.now.place) }
         ensures refused { OnErr result (AreOwned table.now (pairs_of self.new.watches)) }
-        ensures justified { IsJustified table.now trail.new }
-        ensures extends { Extends trail.old trail.new }
-        ensures size { variable_count trail.new ≡ variable_count trail.old }
-        ensures open_ones { open_count trail.new ≤ open_count trail.old }
-        ensures total { open_count trail.new + length_of trail.new ≡ open_count trail.old + length_of trail.old }
+        ensures propagates { Propagates table.now trail.old trail.new }
     {
         let watcher = Watcher {
             placed: *placed,
@@ -347,11 +335,7 @@ impl Propagator {
         requires free { literal_value trail.old binary.now.other ≡ None }
         ensures outcome { IfOk result (WatchOutcomeIs table.now trail.new self.old self.new falsified.now binary.now.placed.place) }
         ensures refused { OnErr result (AreOwned table.now (pairs_of self.new.watches)) }
-        ensures justified { IsJustified table.now trail.new }
-        ensures extends { Extends trail.old trail.new }
-        ensures size { variable_count trail.new ≡ variable_count trail.old }
-        ensures open_ones { open_count trail.new ≤ open_count trail.old }
-        ensures total { open_count trail.new + length_of trail.new ≡ open_count trail.old + length_of trail.old }
+        ensures propagates { Propagates table.now trail.old trail.new }
     {
         trail.force(binary.other, binary.placed.watch.number as usize)?;
         let outcome = self.pass_by(trail, table, falsified, &binary.placed)?;
@@ -402,11 +386,7 @@ impl Propagator {
         requires watching { IsWatching (pairs_of self.old.watches) placed.now.watch.number falsified.now.literal }
         ensures outcome { IfOk result (WatchOutcomeIs table.now trail.new self.old self.new falsified.now placed.now.place) }
         ensures refused { OnErr result (AreOwned table.now (pairs_of self.new.watches)) }
-        ensures justified { IsJustified table.now trail.new }
-        ensures extends { Extends trail.old trail.new }
-        ensures size { variable_count trail.new ≡ variable_count trail.old }
-        ensures open_ones { open_count trail.new ≤ open_count trail.old }
-        ensures total { open_count trail.new + length_of trail.new ≡ open_count trail.old + length_of trail.old }
+        ensures propagates { Propagates table.now trail.old trail.new }
     {
         let watcher = Watcher {
             placed: *placed,
@@ -438,14 +418,9 @@ impl Propagator {
         ensures propagator { OnOk result (IsPropagator table.now trail.new self.new) }
         ensures attached { OnOk result (IsAttached table.now self.new) }
         ensures refused { OnErr result (AreOwned table.now (pairs_of self.new.watches)) }
-        ensures justified { IsJustified table.now trail.new }
-        ensures extends { Extends trail.old trail.new }
-        ensures size { variable_count trail.new ≡ variable_count trail.old }
-        ensures open_ones { open_count trail.new ≤ open_count trail.old }
-        ensures total { open_count trail.new + length_of trail.new ≡ open_count trail.old + length_of trail.old }
+        ensures propagates { Propagates table.now trail.old trail.new }
     {
         let falsified = self.false_literal(trail);
-        self.watches.bring(falsified.literal);
         let mut place = 0;
         'watchers: while let Some(placed) = self.next_watcher(trail, &falsified, place) {
             match self.visit_watcher(trail, table, &falsified, &placed)? {
@@ -473,10 +448,7 @@ pub fn propagate(
     ensures propagator { OnOk result (IsPropagator table.now trail.new propagator.new) }
     ensures attached { OnOk result (IsAttached table.now propagator.new) }
     ensures refused { OnErr result (AreOwned table.now (pairs_of propagator.new.watches)) }
-    ensures justified { IsJustified table.now trail.new }
-    ensures extends { Extends trail.old trail.new }
-    ensures size { variable_count trail.new ≡ variable_count trail.old }
-    ensures open_ones { open_count trail.new ≤ open_count trail.old }
+    ensures propagates { Propagates table.now trail.old trail.new }
 {
     'places: while propagator.head < trail.len() {
         if let Some(number) = propagator.visit(trail, table)? {

@@ -7,7 +7,6 @@ use Rattle.resolver_encoding.proofs.literals.push_candidates.Goals as goal
 
 pub loop-candidate-init : goal.loop-candidate-init
 loop-candidate-init g c = record {
-  bounded = c.requires.bounded;
   limit = refl;
   grows = Grows-same _;
   added = Adds-none _ _;
@@ -17,7 +16,6 @@ pub loop-candidate-preserved : goal.loop-candidate-preserved
 loop-candidate-preserved g c =
     let before = c.loop-candidate.invariant in
     record {
-      bounded = c.push_literal.ensures.bounded;
       limit = c.push_literal.ensures.limit ∙ before.limit;
       grows = Grows-trans _ _ _ before.grows c.push_literal.ensures.grows;
       added = Adds-next (λ s. atom (Solvable s) true) _ _ _ _ _ c.args.candidates.now c.loop-candidate.candidate-index c.candidate-item.result _

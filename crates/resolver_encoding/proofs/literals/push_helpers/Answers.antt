@@ -7,7 +7,6 @@ use Rattle.resolver_encoding.proofs.literals.push_helpers.Goals as goal
 
 pub loop-version_set-init : goal.loop-version_set-init
 loop-version_set-init g c = record {
-  bounded = c.requires.bounded;
   limit = refl;
   grows = Grows-same _;
   added = Adds-none _ _;
@@ -17,7 +16,6 @@ pub loop-version_set-preserved : goal.loop-version_set-preserved
 loop-version_set-preserved g c =
     let before = c.loop-version_set.invariant in
     record {
-      bounded = c.push_literal.ensures.bounded;
       limit = c.push_literal.ensures.limit ∙ before.limit;
       grows = Grows-trans _ _ _ before.grows c.push_literal.ensures.grows;
       added = Adds-next (λ v. atom (ConditionHelper v) false) _ _ _ _ _ c.args.disjunct.now c.loop-version_set.version_set-index _ _

@@ -2,7 +2,7 @@
 
 ghost use Rattle.resolver_clause_store.specs.Caches.{IsTrueCache};
 ghost use Rattle.resolver_encoding.specs.Encodings.{IsUnread};
-ghost use Rattle.resolver_encoding.specs.Notes.{IsBounded, notes_in};
+ghost use Rattle.resolver_encoding.specs.Notes.{notes_in};
 
 use super::*;
 
@@ -20,10 +20,8 @@ fn begin<
     solvable: S,
     given: &[S],
 ) -> Result<(), Interrupted<D::Cancel>>
-    requires bounded { IsBounded encoding.old }
     requires is_true { IsTrueCache (D.universe provider.now) cache.old }
     requires nothing_read { IsUnread (notes_in encoding.old) }
-    ensures bounded { IsBounded encoding.new }
     ensures is_true { IsTrueCache (D.universe provider.now) cache.new }
 {
     encoding.read_root(provider, cache, requirements, &[])?;
@@ -47,7 +45,6 @@ pub fn refused<
     solvable: S,
     given: &[S],
 ) -> Result<Turn, Interrupted<D::Cancel>>
-    requires bounded { IsBounded encoding.old }
     requires is_true { IsTrueCache (D.universe provider.now) cache.old }
     requires nothing_read { IsUnread (notes_in encoding.old) }
     ensures { IsTrueCache (D.universe provider.now) cache.new }

@@ -4,11 +4,11 @@ use Rattle.resolver_clause_store.specs.declared.clauses.StoredRequirement.{Store
 use Rattle.resolver_clause_store.specs.Decisions.{IsFirst}
 use Rattle.resolver_clause_store.specs.Formula.{clause_at}
 use Rattle.resolver_clause_store.specs.LastOpens.{IsOpenSince}
-use Rattle.resolver_clause_store.proofs.QueueLemmas.{held-by_candidate, held-inactive, left-read, parked-more, queued-settled, requirers-noted}
+use Rattle.resolver_clause_store.proofs.QueueLemmas.{held-by_candidate, held-inactive, left-read, parked-more, queued-settled}
 use Rattle.resolver_clause_store.proofs.queue.DecideQueue.consider.Goals as goal
 
-pub returns-in_ok-note-in-Inactive-clause-queued : goal.returns-in_ok-note-in-Inactive-clause-queued
-returns-in_ok-note-in-Inactive-clause-queued c =
+pub returns-in_ok-add-in-Inactive-clause-queued : goal.returns-in_ok-add-in-Inactive-clause-queued
+returns-in_ok-add-in-Inactive-clause-queued c =
     let none : StoredRequirement = record { number = 0; of_root = false } in
     let inside : c.index-number.result.now < length c.args.requirements.now = omega (arith, c.if-index-requirements.false) in
     let requirement : StoredRequirement = get_or c.args.requirements.now c.index-number.result.now none in
@@ -19,10 +19,7 @@ returns-in_ok-note-in-Inactive-clause-queued c =
     let left = c.swap_remove-in-Inactive in
     let here = rw c.index.ensures at c.in_ok-add-in-Inactive.ensures.here in
     let others = rw c.index.ensures at c.in_ok-add-in-Inactive.ensures.others in
-    let asks = requirers-noted it.requirers c.note.new.self c.args.table.now c.args.requirements.now requirement c.clause-literals.result.now index
-    c.in-Inactive.variable inside is c.clause-literals.ensures c.in-Inactive.ensures.0 c.in_ok-note-in-Inactive.ensures.here
-    c.in_ok-note-in-Inactive.ensures.others c.requires.queued.requirers in
-    queued-settled it _ c.args.trail.now c.args.table.now c.args.requirements.now index refl refl asks
+    queued-settled it _ c.args.trail.now c.args.table.now c.args.requirements.now index refl refl
     (left-read it.active.items _ c.args.place index left.result c.requires.listed c.index-number.ensures left.ensures.value left.ensures.items)
     (parked-more it.inactive c.add.new.self c.in-Inactive.variable index here others)
     (λ v i there. there)
@@ -43,7 +40,7 @@ returns-in_ok-add-in-Met-clause-queued c =
     let left = c.swap_remove-in-Met in
     let here = rw c.index-in-Met.ensures at c.in_ok-add-in-Met.ensures.here in
     let others = rw c.index-in-Met.ensures at c.in_ok-add-in-Met.ensures.others in
-    queued-settled it _ c.args.trail.now c.args.table.now c.args.requirements.now index refl refl c.requires.queued.requirers
+    queued-settled it _ c.args.trail.now c.args.table.now c.args.requirements.now index refl refl
     (left-read it.active.items _ c.args.place index left.result c.requires.listed c.index-number.ensures left.ensures.value left.ensures.items)
     (λ v i there. there)
     (parked-more it.met c.add-in-Met.new.self c.in-Met.variable index here others)

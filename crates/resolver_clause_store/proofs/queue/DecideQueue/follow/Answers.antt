@@ -10,5 +10,5 @@ places-preserved c = record {
 }
 
 pub returns-clause-queued : goal.returns-clause-queued
-returns-clause-queued c = λ table requirements it. queued-same c.places.self _ c.args.trail.now table requirements refl refl refl refl refl refl refl
-    (c.places.invariant.queued table requirements (c.in_ok-forget.ensures.queued table requirements it))
+returns-clause-queued c = λ table requirements it. queued-same c.places.self _ c.args.trail.now table requirements refl refl refl refl refl refl
+    (c.places.invariant.queued table requirements (c.in_ok-forget.ensures.queued c.args.trail.now table requirements it))

@@ -1,13 +1,10 @@
-use Rattle.std.proofs.Common.{◌≡◌, ◌≤◌, List, length}
-use Rattle.resolver_clause_store.specs.declared.literals.Literal.{Literal}
-use Rattle.resolver_clause_store.specs.declared.clauses.StoredRequirement.{StoredRequirement}
-use Rattle.resolver_clause_store.specs.Queues.{IsQueued}
+use Rattle.std.proofs.Common.{◌≡◌, ◌≤◌, length}
+use Rattle.resolver_clause_store.specs.Queues.{StaysQueued}
 use Rattle.resolver_clause_store.proofs.queue.DecideQueue.forget.Given as goal
 
 abbrev pub invariant-places : goal.invariant-places
 invariant-places l = record {
-  queued : (table : List (List Literal)) (requirements : List StoredRequirement) → IsQueued l.initial.self l.trail table requirements →
-      IsQueued l.self l.trail table requirements;
+  queued : StaysQueued l.initial.self l.self;
   kept : l.self.kept ≡ l.initial.self.kept;
   some : l.self.kept ≤ length l.self.followed.items;
 }

@@ -5,7 +5,7 @@ pub returns-in_err-push-clause-kept : goal.returns-in_err-push-clause-kept
 returns-in_err-push-clause-kept c = kept-same _ _ c.in_err-push.ensures.items
 
 pub returns-clause-kept : goal.returns-clause-kept
-returns-clause-kept c = kept-push _ _ _ (rw c.new.ensures at c.in_ok-push.ensures.items)
+returns-clause-kept c = kept-push _ _ _ c.in_ok-push.ensures.items
 
 pub invariant_of-self : goal.invariant_of-self
-invariant_of-self c = record { watched = watched-more _ _ _ _ (rw c.new.ensures at c.push.ensures.items) c.args.self.now.watched }
+invariant_of-self c = record { watched = watched-more _ _ _ _ c.push.ensures.items c.args.self.now.watched }

@@ -3,13 +3,12 @@ use Rattle.std.proofs.lemmas.List.{get_or_read_under}
 use Rattle.std.specs.Vec.{vec_len}
 use Rattle.resolver_clause_store.specs.declared.literals.Literal.{Literal}
 use Rattle.resolver_clause_store.specs.declared.pairs.WatchedPair.{WatchedPair}
-use Rattle.resolver_clause_store.specs.ListPoolsView.{lists_in}
 use Rattle.resolver_clause_store.specs.Watches.{list_number, replaced, unwatched}
-use Rattle.resolver_clause_store.proofs.WatchListLemmas.{listed-watching, watched-lists, watching-number, IsMove, move-watched, move-moves, move-fit}
+use Rattle.resolver_clause_store.proofs.WatchListLemmas.{listed-watching, watching-number, IsMove, move-watched, move-moves, move-fit}
 use Rattle.resolver_clause_store.proofs.watches.Watches.move_watch.Goals as goal
 
 pub invariant_of-self : goal.invariant_of-self
-invariant_of-self c = record { watched = watched-lists _ _ _ c.in_err-push.ensures.unchanged.same c.args.self.now.watched }
+invariant_of-self c = record { watched = rw c.in_err-push.ensures.unchanged c.args.self.now.watched }
 
 pub index_mut-requires : goal.index_mut-requires
 index_mut-requires c =
@@ -18,7 +17,7 @@ index_mut-requires c =
 
 -- the steps that were taken
 moves : (c : goal.After-self-2-1) →
-    IsMove (lists_in c.args.self.now.lists) (lists_in c.push.new.self) (lists_in c.take.new.self) c.args.self.now.pairs.items c.args.from c.args.to
+    IsMove c.args.self.now.lists c.push.new.self c.take.new.self c.args.self.now.pairs.items c.args.from c.args.to
     c.args.placed.now.place c.args.blocker c.args.start c.args.placed.now.watch c.replace.new.self
 moves c =
     let from_list = c.list_number-2.ensures ∙ ap (λ (l : Literal). list_number l) c.copied-2.ensures in

@@ -9,7 +9,7 @@ use Rattle.resolver_encoding.proofs.encoding.Encoding.add_code.Goals as goal
 
 pub loop-index-init : goal.loop-index-init
 loop-index-init g c = record {
-  room = KeepsRoom-same _ c.requires.bounded;
+  room = KeepsRoom-same _;
   step = IsStep-same (g.D.Interner.universe c.args.provider.now) (coding_for c.args.name c.args.number c.args.solvable) (λ root. ⊤) (notes_in c.args.self.now);
   code = λ i below. absurd (omega (arith, below));
   groups = refl;

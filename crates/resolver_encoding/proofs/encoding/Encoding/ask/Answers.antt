@@ -47,9 +47,6 @@ returns-clause-alone g c =
     AsksOnly-of u c.args.name (notes_in c.args.self.now) _ (returns-clause-step g c) (returns-clause-asked g c)
     (subst Plain (sym c.in_ok-append.ensures.keys) (record { requirements = plain.requirements; seen = plain.seen }))
 
-pub returns-clause-bounded : goal.returns-clause-bounded
-returns-clause-bounded g c = c.exclude_each.ensures.room.bounded
-
 pub returns-clause-limits : goal.returns-clause-limits
 returns-clause-limits g c = let one = c.lock_out_others.ensures.room in let two = c.exclude_each.ensures.room in record { variables = two.variables ∙ one.variables; clauses = two.clauses ∙ one.clauses }
 
@@ -58,7 +55,6 @@ returns-then-is_among g c =
     let u = g.D.Interner.universe c.args.provider.now in
     let old = notes_in c.args.self.now in
     record {
-      bounded = c.requires.bounded;
       is_true = c.requires.is_true;
       step = IsAskStep-same u (IsAsking c.args.name) (λ root. ⊤) old;
       alone = AsksOnly-same u c.args.name old c.if-is_among.ensures;
@@ -73,9 +69,6 @@ candidates-package-requires-clause-names g c = g.met.D.Interner.names_are_values
 pub candidates-package-requires-clause-has : goal.candidates-package-requires-clause-has
 candidates-package-requires-clause-has g c = c.in_ok-fetch_candidates.ensures.has
 
-pub lock_out_others-requires-clause-bounded : goal.lock_out_others-requires-clause-bounded
-lock_out_others-requires-clause-bounded g c = c.requires.bounded
-
 pub lock_out_others-requires-clause-listed : goal.lock_out_others-requires-clause-listed
 lock_out_others-requires-clause-listed g c =
     let u = g.D.Interner.universe c.args.provider.now in
@@ -86,13 +79,11 @@ lock_out_others-requires-clause-locked g c =
     let u = g.D.Interner.universe c.args.provider.now in
     ap (λ p. p.locked) (c.candidates-package.ensures u c.fetch_candidates.ensures.is_true)
 
-pub exclude_each-requires-clause-bounded : goal.exclude_each-requires-clause-bounded
-exclude_each-requires-clause-bounded g c = c.lock_out_others.ensures.room.bounded
-
-pub exclude_each-requires-clause-excluded : goal.exclude_each-requires-clause-excluded
-exclude_each-requires-clause-excluded g c =
-    let u = g.D.Interner.universe c.args.provider.now in
-    c.deref-2.ensures.value ∙ ap (λ p. p.excluded) (c.candidates-package.ensures u c.fetch_candidates.ensures.is_true)
+pub exclude_each-requires : goal.exclude_each-requires
+exclude_each-requires g c = record {
+  excluded = let u = g.D.Interner.universe c.args.provider.now in
+      c.deref-2.ensures.value ∙ ap (λ p. p.excluded) (c.candidates-package.ensures u c.fetch_candidates.ensures.is_true);
+}
 
 pub append-requires-clause-identity : goal.append-requires-clause-identity
 append-requires-clause-identity g c = g.met.D.Interner.names_are_values

@@ -13,7 +13,7 @@ pub loop-version_set-init : goal.loop-version_set-init
 loop-version_set-init g c =
     let u = g.D.Interner.universe c.args.provider.now in
     record {
-      room = KeepsRoom-same _ c.requires.bounded;
+      room = KeepsRoom-same _;
       step = IsAskStep-same u (IsNamedBy u c.args.named.now) (λ root. ⊤) (notes_in c.args.self.now);
       asked = All-nil (λ v. Contains (notes_in c.args.self.now).asked (u.version_set_name v));
       is_true = c.requires.is_true;
@@ -24,7 +24,7 @@ loop-version_set-preserved g c =
     let u = g.D.Interner.universe c.args.provider.now in
     let before = c.loop-version_set.invariant in
     record {
-      room = KeepsRoom-trans _ _ _ before.room (KeepsRoom-of _ _ c.ask.ensures.bounded c.ask.ensures.limits);
+      room = KeepsRoom-trans _ _ _ before.room (KeepsRoom-of _ _ c.ask.ensures.limits);
       step = IsAskStep-trans u (IsNamedBy u c.args.named.now) (λ root. ⊤) _ _ _ before.step
           (IsAskStep-weaker u (IsAsking c.version_set_name.result) (IsNamedBy u c.args.named.now) (λ call is.
           named_here u c.args.named.now c.loop-version_set.version_set-index _ _ call (omega arith) c.version_set_name.ensures is) (λ root. ⊤) (λ root.

@@ -12,7 +12,7 @@ pub loop-requirement-init : goal.loop-requirement-init
 loop-requirement-init g c =
     let u = g.D.Interner.universe c.args.provider.now in
     record {
-      room = KeepsRoom-same _ c.requires.bounded;
+      room = KeepsRoom-same _;
       step = IsAskStep-same u (λ n. (r : ConditionalRequirement) × Contains c.args.requirements.now r × IsPlainlyNamed u r n) (λ root. ⊤)
           (notes_in c.args.self.now);
       is_true = c.requires.is_true;

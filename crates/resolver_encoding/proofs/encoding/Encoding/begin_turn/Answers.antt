@@ -32,7 +32,6 @@ returns-then-is_among g c =
     let u = g.D.Interner.universe c.args.provider.now in
     let Asked : g.row.N.Denot → Type 0 = λ n. Contains (notes_in c.args.self.now).asked n in
     record {
-      bounded = c.requires.bounded;
       only = refl;
       few = omega arith;
       exempts = λ absent. asked_before (subst Asked c.solvable_name-name.ensures c.if-is_among.ensures);
@@ -44,16 +43,12 @@ pub returns-then-is_among-2 : goal.returns-then-is_among-2
 returns-then-is_among-2 g c =
     let u = g.D.Interner.universe c.args.provider.now in
     record {
-      bounded = c.requires.bounded;
       only = refl;
       few = omega arith;
       exempts = λ absent. absurd (absent c.if-is_among-2.ensures);
       stays = StaysRead-same u (notes_in c.args.self.now);
       memory = tt;
     }
-
-pub returns-clause-bounded : goal.returns-clause-bounded
-returns-clause-bounded g c = c.requires.bounded
 
 pub returns-clause-only : goal.returns-clause-only
 returns-clause-only g c = refl

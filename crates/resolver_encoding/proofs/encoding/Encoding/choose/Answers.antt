@@ -27,7 +27,7 @@ returns g c =
       seen = let AllSeen : List g.row.S.Denot → Type 0 = λ list. All (Contains (notes_in c.see_all.new.self).seen) list in
           subst AllSeen c.deref.ensures.value c.in_ok-see_all.ensures.seen;
       room = (let one = c.ask_named.ensures.room in let two = c.see_all.ensures.room in
-          record { bounded = two.bounded; variables = two.variables ∙ one.variables; clauses = two.clauses ∙ one.clauses });
+          record { variables = two.variables ∙ one.variables; clauses = two.clauses ∙ one.clauses });
       is_true = c.choices_of.ensures.is_true;
       candidates = c.in_ok-choices.ensures.candidates;
       small = c.in_ok-choices.ensures.small;

@@ -13,16 +13,17 @@ pub loop-candidate-init : goal.loop-candidate-init
 loop-candidate-init g c =
     let u = g.D.Interner.universe c.args.provider.now in
     record {
-      room = KeepsRoom-same _ c.requires.bounded;
+      room = KeepsRoom-same _;
       step = IsStep-same u idle (HasConstraint u c.args.by c.args.version_set) (notes_in c.args.self.now);
       read = All-nil (IsForbidden (notes_in c.args.self.now).kinds c.args.by c.args.version_set);
     }
 
-pub constrain-requires-clause-other : goal.constrain-requires-clause-other
-constrain-requires-clause-other g c =
-    let Has : List g.row.S.Denot → Type 0 = λ list. Contains list c.candidate-item.result in
-    subst Has c.requires.forbidden
-    (Contains-item c.args.forbidden.now c.loop-candidate.candidate-index c.candidate-item.result (omega arith) c.candidate-item.is)
+pub constrain-requires : goal.constrain-requires
+constrain-requires g c = record {
+  other = let Has : List g.row.S.Denot → Type 0 = λ list. Contains list c.candidate-item.result in
+      subst Has c.requires.forbidden
+      (Contains-item c.args.forbidden.now c.loop-candidate.candidate-index c.candidate-item.result (omega arith) c.candidate-item.is);
+}
 
 pub loop-candidate-preserved : goal.loop-candidate-preserved
 loop-candidate-preserved g c =

@@ -52,14 +52,8 @@ returns-clause-is_true g c = c.help_each.ensures.is_true
 pub returns-clause-refusal : goal.returns-clause-refusal
 returns-clause-refusal g c = tt
 
-pub help_each-requires-clause-bounded : goal.help_each-requires-clause-bounded
-help_each-requires-clause-bounded g c = c.requires.bounded
-
-pub help_each-requires-clause-is_true : goal.help_each-requires-clause-is_true
-help_each-requires-clause-is_true g c = c.requires.is_true
-
-pub add_with-requires-clause-bounded : goal.add_with-requires-clause-bounded
-add_with-requires-clause-bounded g c = c.help_each.ensures.room.bounded
+pub help_each-requires : goal.help_each-requires
+help_each-requires g c = record { is_true = c.requires.is_true }
 
 pub add_with-requires-clause-names : goal.add_with-requires-clause-names
 add_with-requires-clause-names g c = g.met.D.Interner.names_are_values

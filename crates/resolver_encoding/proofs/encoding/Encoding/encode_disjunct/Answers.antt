@@ -21,7 +21,7 @@ returns-clause-read g c = has_direct c.args.disjunct.items refl c.in_ok-encode_c
 pub returns-clause-room : goal.returns-clause-room
 returns-clause-room g c =
     let it = KeepsRoom-trans _ _ _ c.choose.ensures.room c.encode_choices.ensures.room in
-    record { bounded = it.bounded; variables = it.variables; clauses = it.clauses }
+    record { variables = it.variables; clauses = it.clauses }
 
 pub returns-clause-is_true : goal.returns-clause-is_true
 returns-clause-is_true g c = c.encode_choices.ensures.is_true
@@ -29,14 +29,8 @@ returns-clause-is_true g c = c.encode_choices.ensures.is_true
 pub returns-clause-refusal : goal.returns-clause-refusal
 returns-clause-refusal g c = tt
 
-pub choose-requires-clause-bounded : goal.choose-requires-clause-bounded
-choose-requires-clause-bounded g c = c.requires.bounded
-
-pub choose-requires-clause-is_true : goal.choose-requires-clause-is_true
-choose-requires-clause-is_true g c = c.requires.is_true
-
-pub encode_choices-requires-clause-bounded : goal.encode_choices-requires-clause-bounded
-encode_choices-requires-clause-bounded g c = c.choose.ensures.room.bounded
+pub choose-requires : goal.choose-requires
+choose-requires g c = record { is_true = c.requires.is_true }
 
 pub encode_choices-requires-clause-is_true : goal.encode_choices-requires-clause-is_true
 encode_choices-requires-clause-is_true g c = c.choose.ensures.is_true

@@ -42,9 +42,6 @@ returns-clause-firing g c = c.loop-number.invariant.firing
 pub returns-clause-fired : goal.returns-clause-fired
 returns-clause-fired g c = c.loop-number.invariant.fired
 
-pub fire_if_due-requires-clause-bounded : goal.fire_if_due-requires-clause-bounded
-fire_if_due-requires-clause-bounded g c = c.loop-number.invariant.room.bounded
-
 pub fire_if_due-requires-clause-is_true : goal.fire_if_due-requires-clause-is_true
 fire_if_due-requires-clause-is_true g c = c.loop-number.invariant.is_true
 

@@ -20,7 +20,7 @@ append-requires-clause-absent g c = let Has : List VersionSetId → Type 0 = λ 
 pub returns-then-is_among : goal.returns-then-is_among
 returns-then-is_among g c =
     record {
-      room = KeepsRoom-same _ c.requires.bounded;
+      room = KeepsRoom-same _;
       is_true = c.requires.is_true;
       step = IsStep-same (g.D.Interner.universe c.args.provider.now) idle (λ root. ⊤) (notes_in c.args.self.now);
       helped = c.if-is_among.ensures;
@@ -40,7 +40,7 @@ returns g c =
           All-contains (λ t. Contains mid.kinds (AnyOf (ConditionHelper v) t)) (matching u v) s (subst AllFollow answer c.in_ok-imply_each.ensures.follow) h));
       helped = let Has : List VersionSetId → Type 0 = λ list. Contains list c.args.version_set in
           subst Has (sym c.in_ok-append.ensures.keys) (Contains-push c.imply_each.new.self.helped.keys c.args.version_set);
-      room = (let it = c.imply_each.ensures.room in record { bounded = it.bounded; variables = it.variables; clauses = it.clauses });
+      room = (let it = c.imply_each.ensures.room in record { variables = it.variables; clauses = it.clauses });
       is_true = c.fetch_matching.ensures.is_true;
       refusal = tt;
     }

@@ -13,7 +13,7 @@ pub loop-version_set-init : goal.loop-version_set-init
 loop-version_set-init g c =
     let u = g.D.Interner.universe c.args.provider.now in
     record {
-      room = KeepsRoom-same _ c.requires.bounded;
+      room = KeepsRoom-same _;
       step = IsStep-same u idle (λ root. ⊤) (notes_in c.args.self.now);
       helped = All-nil (Contains (notes_in c.args.self.now).helped);
       is_true = c.requires.is_true;

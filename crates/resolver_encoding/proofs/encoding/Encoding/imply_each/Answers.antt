@@ -17,7 +17,7 @@ use Rattle.resolver_encoding.proofs.encoding.Encoding.imply_each.Goals as goal
 
 pub loop-candidate-init : goal.loop-candidate-init
 loop-candidate-init g c = record {
-  room = KeepsRoom-same _ c.requires.bounded;
+  room = KeepsRoom-same _;
   step = IsStep-same (g.D.Interner.universe c.args.provider.now) idle (λ root. ⊤) (notes_in c.args.self.now);
   follow = All-nil (λ s. Contains (notes_in c.args.self.now).kinds (AnyOf (ConditionHelper c.args.version_set) s));
   helped = refl;

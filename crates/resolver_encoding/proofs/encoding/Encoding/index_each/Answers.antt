@@ -13,7 +13,7 @@ loop-version_set-init g c =
     record {
       origins = refl;
       still = refl;
-      room = KeepsRoom-same _ c.requires.bounded;
+      room = KeepsRoom-same _;
       indexed = IsIndexing-same u c.args.number (notes_in c.args.self.now);
     }
 
@@ -24,7 +24,7 @@ loop-version_set-preserved g c =
     record {
       origins = before.origins;
       still = before.still;
-      room = record { bounded = before.room.bounded; variables = before.room.variables; clauses = before.room.clauses };
+      room = record { variables = before.room.variables; clauses = before.room.clauses };
       indexed = IsIndexing-more u c.args.number c.args.disjunct.now c.loop-version_set.version_set-index _ (notes_in c.args.self.now)
           (notes_in c.loop-version_set.self) _ _ c.version_set_name-name.ensures (omega arith) before.indexed c.in_ok-add.ensures.added refl;
     }

@@ -14,7 +14,7 @@ use Rattle.resolver_encoding.proofs.encoding.Encoding.lock_out_others.Goals as g
 
 pub loop-candidate-init : goal.loop-candidate-init
 loop-candidate-init g c = record {
-  room = KeepsRoom-same _ c.requires.bounded;
+  room = KeepsRoom-same _;
   step = IsStep-same (g.D.Interner.universe c.args.provider.now) (asking_for c.args.name) (λ root. ⊤) (notes_in c.args.self.now);
   forbidden = All-nil (λ s. (s ≡ c.in-Some.locked → ⊥) → (Contains (notes_in c.args.self.now).exempt s → ⊥) →
       Contains (notes_in c.args.self.now).kinds (Lock c.in-Some.locked s));

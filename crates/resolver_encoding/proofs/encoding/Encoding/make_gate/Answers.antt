@@ -15,7 +15,7 @@ use Rattle.resolver_encoding.proofs.encoding.Encoding.make_gate.Goals as goal
 pub returns-then-is_among : goal.returns-then-is_among
 returns-then-is_among g c =
     record {
-      room = KeepsRoom-same _ c.requires.bounded;
+      room = KeepsRoom-same _;
       step = IsStep-same (g.D.Interner.universe c.args.provider.now) idle (λ root. ⊤) (notes_in c.args.self.now);
       gate = c.if-is_among.ensures;
       refusal = tt;
@@ -38,6 +38,6 @@ returns g c =
           (IsStep-gated u mid _ r (λ i. record mid { gates = c.in_ok-append.ensures.keys i }) (clause_listed u old mid (GateRequires r) adds));
       gate = let Has : List Requirement → Type 0 = λ list. Contains list c.args.requirement in
           subst Has (sym c.in_ok-append.ensures.keys) (Contains-push c.add_with.new.self.gates.keys c.args.requirement);
-      room = (let it = c.add_with.ensures.room in record { bounded = it.bounded; variables = it.variables; clauses = it.clauses });
+      room = (let it = c.add_with.ensures.room in record { variables = it.variables; clauses = it.clauses });
       refusal = tt;
     }

@@ -15,7 +15,7 @@ use Rattle.resolver_encoding.proofs.encoding.Encoding.open_digit.Goals as goal
 
 pub loop-other-init : goal.loop-other-init
 loop-other-init g c = record {
-  room = KeepsRoom-same _ c.requires.bounded;
+  room = KeepsRoom-same _;
   step = IsStep-same (g.D.Interner.universe c.args.provider.now) (coding_for c.args.name c.args.number c.args.solvable) (λ root. ⊤) (notes_in c.args.self.now);
   begun = All-nil (λ t. Contains (notes_in c.args.self.now).kinds (HasBit c.args.name t c.args.index false));
   groups = refl;

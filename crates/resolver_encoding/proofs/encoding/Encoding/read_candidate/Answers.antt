@@ -14,7 +14,7 @@ returns-then-is_out_of_reach g c =
           absurd (unhinted (g.D.Interner.universe c.args.provider.now) c.args.hintless c.solvable_name-name.result c.args.candidate
           (c.is_out_of_reach.ensures c.if-is_out_of_reach.true) c.requires.hintless c.solvable_name-name.ensures covered);
       more = inl refl;
-      room = KeepsRoom-same _ c.requires.bounded;
+      room = KeepsRoom-same _;
       is_true = c.requires.is_true;
       hintless = c.requires.hintless;
       refusal = tt;
@@ -26,7 +26,7 @@ returns-then-is_among g c =
       reading = IsReadingOf-same (g.D.Interner.universe c.args.provider.now) c.args.chosen.now.keys (λ s. c.args.candidate ≡ s) (notes_in c.args.self.now);
       here = λ covered. c.if-is_among.ensures;
       more = inl refl;
-      room = KeepsRoom-same _ c.requires.bounded;
+      room = KeepsRoom-same _;
       is_true = c.requires.is_true;
       hintless = c.requires.hintless;
       refusal = tt;
@@ -41,7 +41,7 @@ returns-then-is_out_of_reach-2 g c =
           (c.is_out_of_reach-2.ensures c.if-is_out_of_reach-2.true) (c.without_hints-next.ensures (g.D.Interner.universe c.args.provider.now)
           c.fetch_candidates.ensures.is_true) c.solvable_name-name.ensures covered);
       more = inl refl;
-      room = KeepsRoom-same _ c.requires.bounded;
+      room = KeepsRoom-same _;
       is_true = c.fetch_candidates.ensures.is_true;
       hintless = c.without_hints-next.ensures (g.D.Interner.universe c.args.provider.now) c.fetch_candidates.ensures.is_true;
       refusal = tt;

@@ -15,7 +15,7 @@ pub loop-candidate-init : goal.loop-candidate-init
 loop-candidate-init g c =
     let u = g.D.Interner.universe c.args.provider.now in
     record {
-      room = KeepsRoom-same _ c.requires.bounded;
+      room = KeepsRoom-same _;
       half = c.requires.half;
       reading = hinted_none u c.args.chosen.now.keys c.args.place (notes_in c.args.self.now);
       read = All-nil (λ s. IsHinted u s → Contains (notes_in c.args.self.now).read s);

@@ -112,7 +112,6 @@ returns g c =
           (progress_then old fired new c.in_ok-read.read c.in_ok-fired.fired c.in_ok-hinted.hinted
           (progress u set old mid fired c.in_ok-read.read c.in_ok-fired.fired c.in_ok-read.ensures.any_new c.in_ok-fired.ensures.fired firing)
           c.in_ok-hinted.ensures.any_new);
-      bounded = c.read_hinted.ensures.room.bounded;
       is_true = c.read_hinted.ensures.is_true;
       fit = c.in_ok-hinted.ensures.fit;
       limits = (let it = KeepsRoom-trans _ _ _ c.read_each.ensures.room (KeepsRoom-trans _ _ _ c.fire_deferred.ensures.room c.read_hinted.ensures.room) in

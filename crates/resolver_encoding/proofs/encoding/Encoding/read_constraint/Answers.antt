@@ -5,8 +5,7 @@ use Rattle.resolver_encoding.specs.Encodings.{HasConstraint}
 use Rattle.resolver_encoding.specs.Notes.{notes_in}
 use Rattle.resolver_encoding.proofs.EncodingLemmas.{IsAskStep-of, IsAskStep-trans, IsAskStep-weaker, IsEncodingOf-asked}
 use Rattle.resolver_encoding.proofs.NoteLemmas.{asking_same}
-use Rattle.resolver_encoding.proofs.RoomLemmas.{KeepsRoom-of}
-use Rattle.resolver_encoding.proofs.RoomLemmas.{KeepsRoom-trans}
+use Rattle.resolver_encoding.proofs.RoomLemmas.{KeepsRoom-of, KeepsRoom-trans}
 use Rattle.resolver_encoding.proofs.encoding.Encoding.read_constraint.Goals as goal
 
 pub constrain_by_helper-requires-clause-encoding : goal.constrain_by_helper-requires-clause-encoding
@@ -28,7 +27,7 @@ returns-then-forbidden-lt-CONSTRAINT_HELPER_THRESHOLD g c =
           (IsAskStep-of u Called Premise _ _ c.in_ok-constrain_each.ensures.step);
       asked = let Has : List g.row.N.Denot → Type 0 = λ list. Contains list c.version_set_name.result in
           rw c.version_set_name.ensures at (subst Has (sym c.in_ok-constrain_each.ensures.step.asked) c.in_ok-ask.ensures.asked);
-      room = KeepsRoom-trans _ _ _ (KeepsRoom-of _ _ c.ask.ensures.bounded c.ask.ensures.limits) c.constrain_each.ensures.room;
+      room = KeepsRoom-trans _ _ _ (KeepsRoom-of _ _ c.ask.ensures.limits) c.constrain_each.ensures.room;
       is_true = c.fetch_non_matching.ensures.is_true;
       read = c.in_ok-constrain_each.ensures.read;
       refusal = tt;
@@ -46,14 +45,14 @@ returns g c =
           (IsAskStep-of u Called Premise _ _ c.in_ok-constrain_by_helper.ensures.step);
       asked = let Has : List g.row.N.Denot → Type 0 = λ list. Contains list c.version_set_name.result in
           rw c.version_set_name.ensures at (subst Has (sym c.in_ok-constrain_by_helper.ensures.step.asked) c.in_ok-ask.ensures.asked);
-      room = KeepsRoom-trans _ _ _ (KeepsRoom-of _ _ c.ask.ensures.bounded c.ask.ensures.limits) c.constrain_by_helper.ensures.room;
+      room = KeepsRoom-trans _ _ _ (KeepsRoom-of _ _ c.ask.ensures.limits) c.constrain_by_helper.ensures.room;
       is_true = c.fetch_non_matching.ensures.is_true;
       read = c.in_ok-constrain_by_helper.ensures.read;
       refusal = tt;
     }
 
-pub constrain_each-requires-clause-forbidden : goal.constrain_each-requires-clause-forbidden
-constrain_each-requires-clause-forbidden g c = c.non_matching-forbidden.ensures (g.D.Interner.universe c.args.provider.now) c.fetch_non_matching.ensures.is_true
+pub constrain_each-requires : goal.constrain_each-requires
+constrain_each-requires g c = record { forbidden = c.non_matching-forbidden.ensures (g.D.Interner.universe c.args.provider.now) c.fetch_non_matching.ensures.is_true }
 
 pub constrain_by_helper-requires-clause-forbidden : goal.constrain_by_helper-requires-clause-forbidden
 constrain_by_helper-requires-clause-forbidden g c =

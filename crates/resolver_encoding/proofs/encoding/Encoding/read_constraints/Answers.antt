@@ -16,7 +16,7 @@ pub loop-version_set-init : goal.loop-version_set-init
 loop-version_set-init g c =
     let u = g.D.Interner.universe c.args.provider.now in
     record {
-      room = KeepsRoom-same _ c.requires.bounded;
+      room = KeepsRoom-same _;
       step = IsAskStep-same u (IsNamedBy u c.args.constraints.now) (λ root. All (λ v. HasConstraint u c.args.by v root) c.args.constraints.now)
           (notes_in c.args.self.now);
       read = All-nil (IsConstraintRead u (notes_in c.args.self.now).kinds c.args.by);

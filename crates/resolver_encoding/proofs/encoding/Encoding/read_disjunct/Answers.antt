@@ -59,5 +59,5 @@ returns g c =
 pub encode_disjunct-requires-clause-once : goal.encode_disjunct-requires-clause-once
 encode_disjunct-requires-clause-once g c = c.in_ok-each_once.ensures.once
 
-pub defer-requires-clause-once : goal.defer-requires-clause-once
-defer-requires-clause-once g c = c.in_ok-each_once.ensures.once
+pub defer-requires : goal.defer-requires
+defer-requires g c = record { once = c.in_ok-each_once.ensures.once }

@@ -17,7 +17,7 @@ loop-disjunct-init g c =
     let u = g.D.Interner.universe c.args.provider.now in
     let set = c.args.chosen.now.keys in
     record {
-      room = KeepsRoom-same _ c.requires.bounded;
+      room = KeepsRoom-same _;
       step = IsReadStep-same u (IsUnmet u set c.args.by) (IsCalledBy u set c.args.requirement) (HasRequirement u c.args.by c.args.requirement)
           (notes_in c.args.self.now);
       read = All-nil (λ list. IsDisjunctRead (notes_in c.args.self.now) c.args.by c.args.requirement.requirement list.items);

@@ -14,7 +14,7 @@ pub loop-place-init : goal.loop-place-init
 loop-place-init g c = let u = g.D.Interner.universe c.args.provider.now in
     let set = c.args.chosen.now.keys in
     record {
-      room = KeepsRoom-same _ c.requires.bounded;
+      room = KeepsRoom-same _;
       half = c.requires.half;
       reading = IsReadingOf-same u set (Contains set) (notes_in c.args.self.now);
       read = AreEach-none (Contains (notes_in c.args.self.now).read) set c.args.from;

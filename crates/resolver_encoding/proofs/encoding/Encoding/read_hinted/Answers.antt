@@ -12,7 +12,7 @@ waves-init g c =
     let u = g.D.Interner.universe c.args.provider.now in
     let notes = notes_in c.args.self.now in
     record {
-      room = KeepsRoom-same _ c.requires.bounded;
+      room = KeepsRoom-same _;
       half = c.requires.half;
       reading = hinted_none u c.args.chosen.now.keys c.args.from notes;
       forward = omega arith;

@@ -10,7 +10,7 @@ pub loop-place-init : goal.loop-place-init
 loop-place-init g c =
     let u = g.D.Interner.universe c.args.provider.now in
     record {
-      room = KeepsRoom-same _ c.requires.bounded;
+      room = KeepsRoom-same _;
       half = c.requires.half;
       reading = hinted_none u c.args.chosen.now.keys c.args.from (notes_in c.args.self.now);
       read = hints_none u c.args.from (notes_in c.args.self.now);
@@ -61,7 +61,7 @@ returns-then-before-len-clause-fit g c =
     let fit : length notes.read ≤ length notes.origins =
     seen_fit g.S.PartialEq.eq g.met.D.Interner.solvables_are_values g.met.S.Eq.laws c.loop-place.self.read.keys notes.origins c.len.ensures.unique
     c.loop-place.invariant.half.half.read_known in
-    omega (arith, fit, c.loop-place.invariant.room.bounded.bounded)
+    omega (arith, fit, c.are_within_limit.ensures)
 
 pub returns-clause-here : goal.returns-clause-here
 returns-clause-here g c = hints_until (g.D.Interner.universe c.args.provider.now) c.args.from c.args.until c.loop-place.place (notes_in c.loop-place.self)
@@ -73,7 +73,7 @@ returns-clause-fit g c =
     let fit : length notes.read ≤ length notes.origins =
     seen_fit g.S.PartialEq.eq g.met.D.Interner.solvables_are_values g.met.S.Eq.laws c.loop-place.self.read.keys notes.origins c.len.ensures.unique
     c.loop-place.invariant.half.half.read_known in
-    omega (arith, fit, c.loop-place.invariant.room.bounded.bounded)
+    omega (arith, fit, c.are_within_limit.ensures)
 
 pub returns-clause-any_new : goal.returns-clause-any_new
 returns-clause-any_new g c = no_more_read _ _ c.loop-place.invariant.more (omega (arith, c.len.ensures.len, c.len-before.ensures.len))

@@ -15,7 +15,7 @@ returns-then-not-are_dependencies_available_for g c =
     record {
       reading = IsReadingOf-same (g.D.Interner.universe c.args.provider.now) c.args.chosen.now.keys (λ s. c.args.candidate ≡ s) (notes_in c.args.self.now);
       more = inl refl;
-      room = KeepsRoom-same _ c.requires.bounded;
+      room = KeepsRoom-same _;
       is_true = c.requires.is_true;
       here = λ is. let wrong = c.if-not-are_dependencies_available_for.ensures.1 is in absurd cc;
       only = λ _. refl;

@@ -13,7 +13,7 @@ returns-then-is_among g c =
       more = inl refl;
       is_true = c.requires.is_true;
       here = c.if-is_among.ensures;
-      room = KeepsRoom-same _ c.requires.bounded;
+      room = KeepsRoom-same _;
       refusal = tt;
     }
 
@@ -32,7 +32,7 @@ returns g c =
           subst Has (sym c.in_ok-append.ensures.keys) (Contains-push c.read_solvable.new.self.read.keys c.args.solvable);
       is_true = c.read_solvable.ensures.is_true;
       room = let it = c.read_solvable.ensures.room in
-          record { bounded = it.bounded; variables = it.variables; clauses = it.clauses };
+          record { variables = it.variables; clauses = it.clauses };
       refusal = tt;
     }
 

@@ -42,7 +42,7 @@ returns-then-len-lt-GATE_THRESHOLD g c =
           (record { condition = None; requirement = r }, asks, refl, ap (map (matching u)) c.new-none.ensures.items)) _ _ c.in_ok-encode_choices.ensures.step));
       read = has_direct _ c.new-none.ensures.items c.in_ok-encode_choices.ensures.read;
       room = (let it = KeepsRoom-trans _ _ _ c.choose.ensures.room c.encode_choices.ensures.room in
-          record { bounded = it.bounded; variables = it.variables; clauses = it.clauses });
+          record { variables = it.variables; clauses = it.clauses });
       is_true = c.encode_choices.ensures.is_true;
       refusal = tt;
     }
@@ -69,7 +69,7 @@ returns g c =
           gate_read u Premise (notes_in c.make_gate.new.self) (notes_in c.imply_gate-2.new.self) c.args.requirer r before step
           (step.gates _ c.in_ok-make_gate.ensures.gate) c.in_ok-imply_gate-2.ensures.implied;
       room = (let it = KeepsRoom-trans _ _ _ c.choose.ensures.room (KeepsRoom-trans _ _ _ c.make_gate.ensures.room c.imply_gate-2.ensures.room) in
-          record { bounded = it.bounded; variables = it.variables; clauses = it.clauses });
+          record { variables = it.variables; clauses = it.clauses });
       is_true = c.choose.ensures.is_true;
       refusal = tt;
     }

@@ -20,7 +20,7 @@ loop-requirement-init g c =
     let set = c.args.chosen.now.keys in
     let old = notes_in c.args.self.now in
     record {
-      room = KeepsRoom-same _ c.requires.bounded;
+      room = KeepsRoom-same _;
       step = IsReadStep-same u (IsUnmet u set c.args.by) (IsCalledByEach u set c.args.requirements.now) (λ root.
           All (λ r. HasRequirement u c.args.by r root) c.args.requirements.now) old;
       read = All-nil (IsReadRequirement u old.kinds (IsLeft old) c.args.by);

@@ -81,7 +81,6 @@ returns g c =
           ⊎_elim (λ (was : Contains (notes_in c.read_demands.new.self).read s). absurd (none_in s (subst Has none was))) (λ listed. listed)
           (c.in_ok-read_hinted.ensures.reading.reading.reads s h);
       exempt = c.in_ok-read_hinted.ensures.reading.reading.exempt ∙ c.in_ok-read_demands.ensures.step.exempt ∙ c.in_ok-install_root.ensures.exempt;
-      bounded = c.read_hinted.ensures.room.bounded;
       is_true = c.read_hinted.ensures.is_true;
       hinted = c.in_ok-read_hinted.ensures.here;
       limits = (let it = KeepsRoom-trans _ _ _ c.install_root.ensures.room (KeepsRoom-trans _ _ _ c.read_demands.ensures.room c.read_hinted.ensures.room) in

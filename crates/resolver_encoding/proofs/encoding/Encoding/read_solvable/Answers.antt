@@ -87,6 +87,5 @@ dependencies-requires-clause-solvables g c = g.met.D.Interner.solvables_are_valu
 pub dependencies-requires-clause-has : goal.dependencies-requires-clause-has
 dependencies-requires-clause-has g c = c.in_ok-fetch_dependencies.ensures.has
 
-pub forbid_unknown-requires-clause-unknown : goal.forbid_unknown-requires-clause-unknown
-forbid_unknown-requires-clause-unknown g c =
-    sym (rw c.in-Unknown.is at (c.dependencies.ensures (g.D.Interner.universe c.args.provider.now) c.fetch_dependencies.ensures.is_true))
+pub forbid_unknown-requires : goal.forbid_unknown-requires
+forbid_unknown-requires g c = record { unknown = sym (rw c.in-Unknown.is at (c.dependencies.ensures (g.D.Interner.universe c.args.provider.now) c.fetch_dependencies.ensures.is_true)) }

@@ -16,8 +16,8 @@ use Rattle.resolver_encoding.proofs.SoFarLemmas.{IsWithin-equal}
 use Rattle.resolver_clause_store.proofs.ListLemmas.{Contains-at as place_in}
 use Rattle.resolver_encoding.proofs.encoding.Encoding.register_new.Goals as goal
 
-pub begin_digit-requires-clause-below : goal.begin_digit-requires-clause-below
-begin_digit-requires-clause-below g c = λ sound k t at. slice_get_within c.named-number.result.now k t (c.named-number.ensures.every_at sound k t at)
+pub begin_digit-requires : goal.begin_digit-requires
+begin_digit-requires g c = record { below = λ sound k t at. slice_get_within c.named-number.result.now k t (c.named-number.ensures.every_at sound k t at) }
 
 pub returns : goal.returns
 returns g c =
@@ -31,19 +31,19 @@ returns g c =
           let mid = notes_in c.add_code.new.self in
           let begun = c.in_ok-begin_digit.ensures in
           let code = c.in_ok-add_code.ensures in
-          let grows : Grows old.origins (origins_in c.intern_near.new.self) = record { keeps = c.intern_near.ensures.kept; distinct = c.intern_near.ensures.distinct } in
+          let grows : Grows old.origins (origins_in c.intern.new.self) = record { keeps = c.intern.ensures.kept; distinct = c.intern.ensures.distinct } in
           let Sound : Groups g.row.N.Denot g.row.S.Denot → Type 0 = λ gs. AreGroups gs in
           let same_groups = code.groups ∙ begun.groups in
           let step = IsStep-trans u (coding_for n k s) (λ root. ⊤) _ _ _ begun.step code.step in
           IsAskStep-trans u (IsSeeing s) (λ root. ⊤) _ _ _
           (IsAskStep-of u (IsSeeing s) (λ root. ⊤) _ _
-          (IsStep-origins u idle (λ root. ⊤) old _ (origins_in c.intern_near.new.self) (limit_in c.intern_near.new.self) grows c.intern_near.ensures.limit refl))
+          (IsStep-origins u idle (λ root. ⊤) old _ (origins_in c.intern.new.self) (limit_in c.intern.new.self) grows c.intern.ensures.limit refl))
           (IsStep-seen u g.N.PartialEq.eq g.S.PartialEq.eq g.met.D.Interner.names_are_values g.met.D.Interner.solvables_are_values n k s _ mid _
           c.add.new.self list
           (sym c.solvable_name-name.ensures) c.requires.absent
           step same_groups (code.seen ∙ begun.seen) (λ i. record mid { seen = c.in_ok-append.ensures.keys i; groups = c.add.new.self })
           c.in_ok-add.ensures.added
-          (place_in mid.origins _ (Solvable s) (step.origins.kept _ (Solvable s) c.in_ok-intern_near.ensures.here))
+          (place_in mid.origins _ (Solvable s) (step.origins.kept _ (Solvable s) c.in_ok-intern.ensures.here))
           c.named-number.ensures.each_at c.named-number.ensures.every_at refl code.code
           (λ i begins sound j t at. code.step.kinds _ (begun.begun i begins sound j t at)));
       asked = c.in_ok-add_code.ensures.step.asked ∙ c.in_ok-begin_digit.ensures.step.asked;
@@ -58,7 +58,7 @@ returns g c =
           (Contains-push_cases mid.seen c.args.solvable t
           (IsWithin-equal c.append.new.set.keys (mid.seen ++ c.args.solvable ∷ []) (sym c.in_ok-append.ensures.keys) t h));
       room = (let one = c.begin_digit.ensures.room in let two = c.add_code.ensures.room in
-          record { bounded = two.bounded; variables = two.variables ∙ one.variables ∙ c.intern_near.ensures.limit; clauses = two.clauses ∙ one.clauses });
+          record { variables = two.variables ∙ one.variables ∙ c.intern.ensures.limit; clauses = two.clauses ∙ one.clauses });
       requirements = c.in_ok-add_code.ensures.requirements ∙ c.in_ok-begin_digit.ensures.requirements;
       refusal = tt;
     }

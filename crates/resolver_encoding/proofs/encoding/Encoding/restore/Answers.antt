@@ -20,7 +20,7 @@ returns-then-not-is_among g c =
       restored = let u = g.D.Interner.universe c.args.provider.now in
           let Asked : g.row.N.Denot → Type 0 = λ n. Contains (notes_in c.args.self.now).asked n → ⊥ in
           IsRestored-unasked u c.args.solvable (notes_in c.args.self.now) (subst Asked c.solvable_name-name.ensures c.if-not-is_among.ensures);
-      room = KeepsRoom-same _ c.requires.bounded;
+      room = KeepsRoom-same _;
       is_true = c.requires.is_true;
       step = IsStep-same (g.D.Interner.universe c.args.provider.now) (owing_for c.args.solvable) (λ root. ⊤) (notes_in c.args.self.now);
       plain = AddsPlainly-same (g.D.Interner.universe c.args.provider.now) (notes_in c.args.self.now);

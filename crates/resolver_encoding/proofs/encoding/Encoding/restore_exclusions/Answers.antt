@@ -13,7 +13,7 @@ use Rattle.resolver_encoding.proofs.encoding.Encoding.restore_exclusions.Goals a
 
 pub loop-other-init : goal.loop-other-init
 loop-other-init g c = record {
-  room = KeepsRoom-same _ c.requires.bounded;
+  room = KeepsRoom-same _;
   step = IsStep-same (g.D.Interner.universe c.args.provider.now) (owing_for c.args.solvable) (λ root. ⊤) (notes_in c.args.self.now);
   plain = AddsPlainly-same (g.D.Interner.universe c.args.provider.now) (notes_in c.args.self.now);
   restored = All-nil (λ e. e.0 ≡ c.args.solvable → (Contains (notes_in c.args.self.now).exempt c.args.solvable → ⊥) →
@@ -63,6 +63,3 @@ pub returns-clause-restored : goal.returns-clause-restored
 returns-clause-restored g c = All-done (λ e.
     e.0 ≡ c.args.solvable → (Contains (notes_in c.args.self.now).exempt c.args.solvable → ⊥) →
     Contains (notes_in c.loop-other.self).kinds (Excluded e.0 e.1)) c.args.excluded.now c.loop-other.other-index (omega arith) c.loop-other.invariant.restored
-
-pub restore_exclusion-requires-clause-bounded : goal.restore_exclusion-requires-clause-bounded
-restore_exclusion-requires-clause-bounded g c = c.loop-other.invariant.room.bounded

@@ -12,7 +12,7 @@ use Rattle.resolver_encoding.proofs.encoding.Encoding.see_all.Goals as goal
 
 pub loop-candidate-init : goal.loop-candidate-init
 loop-candidate-init g c = record {
-  room = record { bounded = c.make_variables.ensures.bounded; variables = c.make_variables.ensures.limit; clauses = refl };
+  room = record { variables = c.make_variables.ensures.limit; clauses = refl };
   step = made_step (g.D.Interner.universe c.args.provider.now) c.args.candidates.now (notes_in c.args.self.now) _ _ _ c.make_variables.ensures.grows
       c.make_variables.ensures.limit refl;
   seen = All-nil (Contains (notes_in c.args.self.now).seen);
@@ -27,10 +27,10 @@ loop-candidate-preserved g c =
       step = IsAskStep-trans u (IsSeeingEach c.args.candidates.now) (λ root. ⊤) _ _ _ before.step
           (IsAskStep-weaker u (IsSeeing c.candidate-item.result) (IsSeeingEach c.args.candidates.now)
           (seen_here c.args.candidates.now c.loop-candidate.candidate-index c.candidate-item.result (omega arith) c.candidate-item.is) (λ root. ⊤) (λ root.
-          ⊤) (λ root _. tt) _ _ c.in_ok-next.ensures.step);
+          ⊤) (λ root _. tt) _ _ c.in_ok-see.ensures.step);
       seen = All-grown (Contains c.loop-candidate.self.seen.keys)
           (Contains c.see.new.self.seen.keys) c.args.candidates.now c.loop-candidate.candidate-index c.candidate-item.result (λ y h.
-          Extends-within _ _ c.in_ok-next.ensures.step.seen y h) (omega arith) c.candidate-item.is before.seen c.in_ok-next.ensures.seen;
+          Extends-within _ _ c.in_ok-see.ensures.step.seen y h) (omega arith) c.candidate-item.is before.seen c.in_ok-see.ensures.seen;
     }
 
 pub returns-clause-seen : goal.returns-clause-seen

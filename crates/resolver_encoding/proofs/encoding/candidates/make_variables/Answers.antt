@@ -3,13 +3,12 @@ use Rattle.resolver_encoding.proofs.ClauseLemmas.{Grows-same, Grows-trans}
 use Rattle.resolver_encoding.proofs.encoding.candidates.make_variables.Goals as goal
 
 pub loop-candidate-init : goal.loop-candidate-init
-loop-candidate-init g c = record { bounded = c.requires.bounded; limit = refl; grows = Grows-same _ }
+loop-candidate-init g c = record { limit = refl; grows = Grows-same _ }
 
 pub loop-candidate-preserved : goal.loop-candidate-preserved
 loop-candidate-preserved g c =
     let before = c.loop-candidate.invariant in
     record {
-      bounded = c.intern_near.ensures.bounded;
-      limit = c.intern_near.ensures.limit ∙ before.limit;
-      grows = Grows-trans _ _ _ before.grows (record { keeps = c.intern_near.ensures.kept; distinct = c.intern_near.ensures.distinct });
+      limit = c.intern.ensures.limit ∙ before.limit;
+      grows = Grows-trans _ _ _ before.grows (record { keeps = c.intern.ensures.kept; distinct = c.intern.ensures.distinct });
     }

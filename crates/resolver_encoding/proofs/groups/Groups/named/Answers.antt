@@ -9,10 +9,10 @@ pub returns-in-Some : goal.returns-in-Some
 returns-in-Some g c =
     let place = c.in-Some.place in
     let name = c.args.name in
-    let list = c.group.result.now in
+    let list = c.at.result.now in
     let members = c.args.self.now.members in
-    let at : slice_get c.args.self.now.names.keys place ≡ Some name = rw c.in-Some.is at c.place_near.ensures.place in
-    let is : list ≡ group_at members place = c.group.ensures in
+    let at : slice_get c.args.self.now.names.keys place ≡ Some name = rw c.in-Some.is at c.place_of.ensures.place in
+    let is : list ≡ group_at members place = c.at.ensures in
     record {
       each = All-weaker (Contains list) (IsNamed c.args.self.now name) (λ s h.
           let Has : List g.row.S.Denot → Type 0 = λ xs. Contains xs s in
@@ -32,11 +32,11 @@ returns-in-Some g c =
 
 pub returns-in-None-clause-every : goal.returns-in-None-clause-every
 returns-in-None-clause-every g c = λ sound s h.
-    absurd ((rw c.in-None.is at c.place_near.ensures.absent) (place_in c.args.self.now.names.keys h.place c.args.name h.named))
+    absurd ((rw c.in-None.is at c.place_of.ensures.absent) (place_in c.args.self.now.names.keys h.place c.args.name h.named))
 
 pub returns-in-None-clause-every_at : goal.returns-in-None-clause-every_at
 returns-in-None-clause-every_at g c = λ sound k s h.
-    absurd ((rw c.in-None.is at c.place_near.ensures.absent) (place_in c.args.self.now.names.keys h.place c.args.name h.named))
+    absurd ((rw c.in-None.is at c.place_of.ensures.absent) (place_in c.args.self.now.names.keys h.place c.args.name h.named))
 
 pub returns-in-None-clause-each : goal.returns-in-None-clause-each
 returns-in-None-clause-each g c = All-nil (IsNamed c.args.self.now c.args.name)

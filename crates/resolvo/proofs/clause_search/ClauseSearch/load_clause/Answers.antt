@@ -1,4 +1,4 @@
-use Rattle.std.proofs.Common.{rules, refl, ap, ◌∙◌, ◌≡◌, length, min, inl}
+use Rattle.std.proofs.Common.{arith, length-append, rules, refl, ap, ◌∙◌, ◌≡◌, length, min, inl}
 use Rattle.resolver_clause_store.specs.TrailView.{length_of}
 use Rattle.resolver_clause_store.proofs.KeptLemmas.{keeps_undone}
 use Rattle.resolvo.specs.Propagators.{IsPropagator}
@@ -17,7 +17,7 @@ returns-clause-consistent c =
     rw c.in_ok-push.ensures.items (c.in_ok-cut.ensures.propagator _ _ (lower-undone _ _ _ c.undo_until.ensures) longer) in
     consistent-given c.args.self.now _ c.args.literals.now _ _ _ c.requires.consistent
     c.requires.below end c.in_ok-push.ensures.items c.in_ok-push_given.ensures.added c.in_ok-push-2.ensures.added refl
-    c.undo_until.ensures c.level_for-level.ensures.low refl (c.min-self.ensures ∙ ap (min c.args.self.now.kept) c.len-left.ensures) refl refl propagates
+    c.undo_until.ensures c.level_for-level.ensures.low (c.min-self.ensures ∙ ap (min c.args.self.now.kept) c.len-left.ensures) refl refl propagates
     (queued-left c.args.self.now.queue c.cut-2.new.self c.args.self.now.trail c.undo_until.new.self c.args.self.now.table
     c.args.self.now.requirements.items c.len-left.result (length_of c.undo_until.new.self) c.cut-2.ensures
     (keeps_undone c.args.self.now.trail c.undo_until.new.self c.level_for-level.result c.undo_until.ensures) c.len-left.ensures
@@ -31,7 +31,8 @@ returns-clause-loaded c = λ given numbers loaded.
     c.in_ok-push.ensures.items c.in_ok-push_given.ensures.added c.in_ok-push-2.ensures.added refl loaded
 
 pub returns-clause-same : goal.returns-clause-same
-returns-clause-same c = same-undone c.args.self.now _ _ c.requires.consistent c.undo_until.ensures c.level_for-level.ensures.low refl
+returns-clause-same c = same-undone c.args.self.now _ _ c.requires.consistent c.undo_until.ensures c.level_for-level.ensures.low
+    (rw (c.in_ok-push.ensures.items, c.in_ok-push-2.ensures.added) (simp length-append (omega arith)))
     (c.min-self.ensures ∙ ap (min c.args.self.now.kept) c.len-left.ensures) refl refl
 
 pub returns-clause-undone : goal.returns-clause-undone

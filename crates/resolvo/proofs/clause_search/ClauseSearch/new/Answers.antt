@@ -22,7 +22,7 @@ pub returns-clause-variables : goal.returns-clause-variables
 returns-clause-variables c = c.empty.ensures.size
 
 pub returns-clause-learnt : goal.returns-clause-learnt
-returns-clause-learnt c = refl
+returns-clause-learnt c = rw (c.new.ensures, c.new-4.ensures) refl
 
 pub returns-clause-turn : goal.returns-clause-turn
 returns-clause-turn c = record { base = refl; none = λ variable slot at reason. absurd (none-some slot (sym (c.empty.ensures.none variable) ∙ at)) }

@@ -91,7 +91,7 @@ next-requires-clause-queued g c =
     let one = extended old trail c.apply_all_pending.new.propagator old.queue owned c.requires.consistent first.step.size first.step.justified
     first.step.extends first.propagator (still_queued old trail first.step.extends c.requires.consistent) in
     let middle : ClauseSearch = record old { trail = trail; propagator = c.apply_all_pending.new.propagator; in_lists = owned } in
-    let second = c.propagate.ensures in
+    let second = c.propagate.ensures.propagates in
     rw c.as_slice-requirements.ensures.value (still_queued middle c.propagate.new.trail second.extends one.0)
 
 pub returns-in-Some-2 : goal.returns-in-Some-2
@@ -104,7 +104,7 @@ returns-in-Some-2 g c =
     let one = extended old trail c.apply_all_pending.new.propagator old.queue owned c.requires.consistent first.step.size first.step.justified
     first.step.extends first.propagator (still_queued old trail first.step.extends c.requires.consistent) in
     let middle : ClauseSearch = record old { trail = trail; propagator = c.apply_all_pending.new.propagator; in_lists = owned } in
-    let second = c.propagate.ensures in
+    let second = c.propagate.ensures.propagates in
     let end = extended middle c.propagate.new.trail c.propagate.new.propagator old.queue _ one.0 second.size second.justified second.extends
     c.in_ok-number-2.ensures.propagator (still_queued middle c.propagate.new.trail second.extends one.0) in
     record {
@@ -126,7 +126,7 @@ returns-in-Some-3 g c =
     let one = extended old trail c.apply_all_pending.new.propagator old.queue owned c.requires.consistent first.step.size first.step.justified
     first.step.extends first.propagator (still_queued old trail first.step.extends c.requires.consistent) in
     let middle : ClauseSearch = record old { trail = trail; propagator = c.apply_all_pending.new.propagator; in_lists = owned } in
-    let second = c.propagate.ensures in
+    let second = c.propagate.ensures.propagates in
     let end = extended middle c.propagate.new.trail c.propagate.new.propagator c.next.new.self _ one.0 second.size second.justified second.extends
     c.in_ok-number-2.ensures.propagator (rw c.as_slice-requirements.ensures.value at c.in_ok-choice.ensures.queued) in
     record {
@@ -148,7 +148,7 @@ returns-in-None g c =
     let one = extended old trail c.apply_all_pending.new.propagator old.queue owned c.requires.consistent first.step.size first.step.justified
     first.step.extends first.propagator (still_queued old trail first.step.extends c.requires.consistent) in
     let middle : ClauseSearch = record old { trail = trail; propagator = c.apply_all_pending.new.propagator; in_lists = owned } in
-    let second = c.propagate.ensures in
+    let second = c.propagate.ensures.propagates in
     let end = extended middle c.propagate.new.trail c.propagate.new.propagator c.next.new.self _ one.0 second.size second.justified second.extends
     c.in_ok-number-2.ensures.propagator (rw c.as_slice-requirements.ensures.value at c.in_ok-choice.ensures.queued) in
     record {

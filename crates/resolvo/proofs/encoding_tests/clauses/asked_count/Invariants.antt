@@ -1,13 +1,12 @@
 use Rattle.std.proofs.Common.{[]}
 use Rattle.resolver_clause_store.specs.Caches.{IsTrueCache}
-use Rattle.resolver_encoding.specs.Notes.{IsBounded, notes_in}
+use Rattle.resolver_encoding.specs.Notes.{notes_in}
 use Rattle.resolver_encoding.specs.SoFar.{IsReading}
 use Rattle.resolvo.specs.TestProvider.{test_universe}
 use Rattle.resolvo.proofs.encoding_tests.clauses.asked_count.Given as goal
 
 abbrev pub invariant-loop-name : goal.invariant-loop-name
 invariant-loop-name l = record {
-  bounded : IsBounded l.encoding;
   is_true : IsTrueCache (test_universe l.provider.endless l.provider.requirements.items l.provider.constraints.items) l.cache;
   reading : IsReading (test_universe l.provider.endless l.provider.requirements.items l.provider.constraints.items) [] (notes_in l.encoding);
 }

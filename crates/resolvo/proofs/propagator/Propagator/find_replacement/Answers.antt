@@ -1,8 +1,8 @@
-use Rattle.std.proofs.Common.{arith, Some, false, subst, ◌≡◌, refl}
+use Rattle.std.proofs.Common.{Some, false, subst, ◌≡◌}
 use Rattle.std.proofs.lemmas.Option.{slice_get_within}
 use Rattle.resolver_clause_store.specs.TrailView.{literal_value}
 use Rattle.resolver_clause_store.specs.declared.Literal.{Literal}
-use Rattle.resolvo.proofs.VisitLemmas.{moves, own-other, extends-same}
+use Rattle.resolvo.proofs.VisitLemmas.{moves, own-other, propagates-none}
 use Rattle.resolvo.proofs.ReplacementLemmas.{replaces-at}
 use Rattle.resolvo.proofs.TwoLiteralLemmas.{false-now, own-false}
 use Rattle.resolver_clause_store.proofs.ResultLemmas.{refused-any}
@@ -19,23 +19,7 @@ returns-in_ok-move_watch-in-Some c =
           moves _ _ _ _ _ _ _ _ _ c.requires.visiting moved.moved (moved.fit _ own was.watched.fit) c.requires.pair
           (rw c.clause-literals.ensures at (replaces-at _ _ _ _ _ c.in-Some.ensures c.index-literals-place.is)) (slice_get_within _ _ _ c.requires.stands);
       refused = tt;
-      justified = c.requires.justified;
-      extends = extends-same c.args.trail.now;
-      size = refl;
-      open_ones = omega arith;
-      total = refl;
-    }
-
-pub returns-in_ok-outcome-in-None : goal.returns-in_ok-outcome-in-None
-returns-in_ok-outcome-in-None c =
-    record {
-      outcome = c.in_ok-outcome-in-None.ensures.outcome;
-      refused = tt;
-      justified = c.force_other.ensures.justified;
-      extends = c.force_other.ensures.extends;
-      size = c.force_other.ensures.size;
-      open_ones = c.force_other.ensures.open_ones;
-      total = c.force_other.ensures.total;
+      propagates = propagates-none _ _ c.requires.justified;
     }
 
 pub replacement-requires-clause-falsified : goal.replacement-requires-clause-falsified
@@ -63,9 +47,5 @@ returns-in_err-move_watch-in-Some c =
     record {
       outcome = IfOk-from_err c.from_residual.result _ c.from_residual.ensures.0;
       refused = refused-any _ _ (owned-same _ _ _ c.in_err-move_watch-in-Some.ensures.kept (owned-of _ _ _ c.requires.visiting.propagator));
-      justified = c.requires.justified;
-      extends = extends-same c.args.trail.now;
-      size = refl;
-      open_ones = omega arith;
-      total = refl;
+      propagates = propagates-none _ _ c.requires.justified;
     }

@@ -1,8 +1,7 @@
 use Rattle.std.proofs.Common.{arith}
 use Rattle.resolver_clause_store.proofs.TrailLemmas.{value-none}
 use Rattle.resolvo.proofs.AttachingLemmas.{gained-satisfied}
-use Rattle.resolvo.proofs.JustifiedLemmas.{justified-gains, justified-same}
-use Rattle.resolvo.proofs.VisitLemmas.{below-contains, forces, stands-placed}
+use Rattle.resolvo.proofs.VisitLemmas.{below-contains, forces, propagates-gains, propagates-same, stands-placed}
 use Rattle.resolvo.proofs.TwoLiteralLemmas.{binary-unit}
 use Rattle.resolver_clause_store.proofs.ResultLemmas.{refused-any}
 use Rattle.resolvo.proofs.WatchedLemmas.{owned-of}
@@ -17,10 +16,10 @@ pass_by-requires-clause-visiting c = forces _ _ _ _ _ _ _ _ c.requires.visiting 
 pub pass_by-requires-clause-satisfied : goal.pass_by-requires-clause-satisfied
 pass_by-requires-clause-satisfied c = gained-satisfied _ _ _ _ _ _ c.in_ok-force.ensures.ok c.requires.own
 
-pub returns-clause-justified : goal.returns-clause-justified
-returns-clause-justified c =
+pub returns-clause-propagates : goal.returns-clause-propagates
+returns-clause-propagates c =
     let was = c.requires.visiting.propagator in
-    justified-gains _ _ _ _ _ _ c.requires.justified c.in_ok-force.ensures.ok (value-none _ _ c.requires.free)
+    propagates-gains _ _ _ _ _ _ c.requires.justified c.in_ok-force.ensures.ok (value-none _ _ c.requires.free)
     (omega (arith, c.requires.inside, was.watched.attached)) c.requires.own
     (binary-unit _ _ _ _ _ c.requires.visiting _ _ c.requires.watching c.requires.own c.requires.two c.requires.free)
 
@@ -30,12 +29,12 @@ pass_by-requires-clause-stands c = stands-placed _ c.args.binary.now.placed c.re
 pub returns-in_err-force-clause-refused : goal.returns-in_err-force-clause-refused
 returns-in_err-force-clause-refused c = refused-any _ _ (owned-of _ _ _ c.requires.visiting.propagator)
 
-pub returns-in_err-force-clause-justified : goal.returns-in_err-force-clause-justified
-returns-in_err-force-clause-justified c = justified-same _ _ _ c.requires.justified c.in_err-force.ensures.err
+pub returns-in_err-force-clause-propagates : goal.returns-in_err-force-clause-propagates
+returns-in_err-force-clause-propagates c = propagates-same _ _ _ c.requires.justified c.in_err-force.ensures.err
 
-pub returns-in_err-outcome-clause-justified : goal.returns-in_err-outcome-clause-justified
-returns-in_err-outcome-clause-justified c =
+pub returns-in_err-outcome-clause-propagates : goal.returns-in_err-outcome-clause-propagates
+returns-in_err-outcome-clause-propagates c =
     let was = c.requires.visiting.propagator in
-    justified-gains _ _ _ _ _ _ c.requires.justified c.in_ok-force.ensures.ok (value-none _ _ c.requires.free)
+    propagates-gains _ _ _ _ _ _ c.requires.justified c.in_ok-force.ensures.ok (value-none _ _ c.requires.free)
     (omega (arith, c.requires.inside, was.watched.attached)) c.requires.own
     (binary-unit _ _ _ _ _ c.requires.visiting _ _ c.requires.watching c.requires.own c.requires.two c.requires.free)

@@ -1,5 +1,5 @@
-use Rattle.std.proofs.Common.{arith, ◌+◌, ◌∙◌, ap, length, refl}
-use Rattle.resolvo.proofs.VisitLemmas.{blockers-below, brought, visited, extends-same, extends-trans}
+use Rattle.std.proofs.Common.{arith, ◌+◌, ◌∙◌, ap, refl}
+use Rattle.resolvo.proofs.VisitLemmas.{blockers-below, propagates-none, propagates-trans, visited}
 use Rattle.resolver_clause_store.proofs.WatchListLemmas.{watching-stands}
 use Rattle.resolvo.proofs.propagator.Propagator.visit.Goals as goal
 
@@ -7,18 +7,14 @@ pub watchers-init : goal.watchers-init
 watchers-init c = record {
   visiting = record {
     below = c.requires.below;
-    propagator = brought _ _ c.args.self.now _ c.bring.ensures.lists c.bring.ensures.pairs c.requires.propagator;
-    attached = record { all = ap length c.bring.ensures.pairs ∙ c.requires.attached.all; none = c.requires.attached.none };
+    propagator = c.requires.propagator;
+    attached = c.requires.attached;
     fails = c.false_literal-falsified.ensures.fails;
     excused = record { each = λ place watch before is. absurd (omega (arith, before)) };
   };
   within = omega arith;
   head = refl;
-  justified = c.requires.justified;
-  extends = extends-same c.args.trail.now;
-  size = refl;
-  open_ones = omega arith;
-  total = refl;
+  propagates = propagates-none _ _ c.requires.justified;
 }
 
 pub next_watcher-requires-clause-below : goal.next_watcher-requires-clause-below
@@ -37,11 +33,7 @@ returns c =
           (s.0, record { watch = s.1; is = s.2; named = s.3 }));
       attached = record { all = c.watchers.invariant.visiting.attached.all; none = c.watchers.invariant.visiting.attached.none };
       refused = tt;
-      justified = c.watchers.invariant.justified;
-      extends = c.watchers.invariant.extends;
-      size = c.watchers.invariant.size;
-      open_ones = c.watchers.invariant.open_ones;
-      total = c.watchers.invariant.total;
+      propagates = c.watchers.invariant.propagates;
     }
 
 pub returns-in-Conflict : goal.returns-in-Conflict
@@ -52,11 +44,7 @@ returns-in-Conflict c =
       propagator = (rw c.in-Conflict.is at c.in_ok-next.ensures.outcome).propagator;
       attached = (rw c.in-Conflict.is at c.in_ok-next.ensures.outcome).attached;
       refused = tt;
-      justified = c.visit_watcher.ensures.justified;
-      extends = extends-trans _ _ _ c.watchers.invariant.extends c.visit_watcher.ensures.extends;
-      size = c.visit_watcher.ensures.size ∙ c.watchers.invariant.size;
-      open_ones = omega (arith, c.visit_watcher.ensures.open_ones, c.watchers.invariant.open_ones);
-      total = c.visit_watcher.ensures.total ∙ c.watchers.invariant.total;
+      propagates = propagates-trans _ _ _ _ c.watchers.invariant.propagates c.visit_watcher.ensures.propagates;
     }
 
 pub watchers-preserved : goal.watchers-preserved
@@ -66,11 +54,7 @@ watchers-preserved c =
       visiting = goes.visiting;
       within = goes.within;
       head = goes.head ∙ c.watchers.invariant.head;
-      justified = c.visit_watcher.ensures.justified;
-      extends = extends-trans _ _ _ c.watchers.invariant.extends c.visit_watcher.ensures.extends;
-      size = c.visit_watcher.ensures.size ∙ c.watchers.invariant.size;
-      open_ones = omega (arith, c.visit_watcher.ensures.open_ones, c.watchers.invariant.open_ones);
-      total = c.visit_watcher.ensures.total ∙ c.watchers.invariant.total;
+      propagates = propagates-trans _ _ _ _ c.watchers.invariant.propagates c.visit_watcher.ensures.propagates;
     }
 
 pub watchers-smaller : goal.watchers-smaller

@@ -1,5 +1,4 @@
-use Rattle.std.proofs.Common.{arith, refl}
-use Rattle.resolvo.proofs.VisitLemmas.{below-contains, own-other, paired, extends-same}
+use Rattle.resolvo.proofs.VisitLemmas.{below-contains, own-other, paired, propagates-none}
 use Rattle.resolvo.proofs.propagator.Propagator.visit_pair.Goals as goal
 
 pub is_true-requires : goal.is_true-requires
@@ -18,26 +17,5 @@ find_replacement-requires-clause-pair c =
     paired _ _ _ _ _ _ c.requires.visiting.propagator.watched c.requires.inside c.requires.watching
     c.other_watched.ensures
 
-pub returns : goal.returns
-returns c =
-    record {
-      outcome = c.in_ok-outcome-2.ensures.outcome;
-      refused = tt;
-      justified = c.find_replacement.ensures.justified;
-      extends = c.find_replacement.ensures.extends;
-      size = c.find_replacement.ensures.size;
-      open_ones = c.find_replacement.ensures.open_ones;
-      total = c.find_replacement.ensures.total;
-    }
-
-pub returns-then-is_true : goal.returns-then-is_true
-returns-then-is_true c =
-    record {
-      outcome = c.in_ok-outcome.ensures.outcome;
-      refused = tt;
-      justified = c.requires.justified;
-      extends = extends-same c.args.trail.now;
-      size = refl;
-      open_ones = omega arith;
-      total = refl;
-    }
+pub returns-then-is_true-clause-propagates : goal.returns-then-is_true-clause-propagates
+returns-then-is_true-clause-propagates c = propagates-none _ _ c.requires.justified

@@ -1,6 +1,6 @@
-use Rattle.std.proofs.Common.{arith, sym, ◌∙◌, refl}
+use Rattle.std.proofs.Common.{sym, ◌∙◌}
 use Rattle.resolver_clause_store.proofs.WatchListLemmas.{fit-at}
-use Rattle.resolvo.proofs.VisitLemmas.{below-contains, makes-true, stands-placed, tested-true, extends-same}
+use Rattle.resolvo.proofs.VisitLemmas.{below-contains, makes-true, stands-placed, tested-true, propagates-none}
 use Rattle.resolvo.proofs.propagator.Propagator.visit_watcher.Goals as goal
 
 pub value-value-requires : goal.value-value-requires
@@ -23,41 +23,8 @@ force_binary-requires-clause-two c =
     (fit-at _ _ _ _ _ c.requires.visiting.propagator.watched.fit c.requires.stands).two
     (c.is_forced.ensures c.if-is_forced.true).0
 
-pub returns : goal.returns
-returns c =
-    record {
-      outcome = c.in_ok-outcome-3.ensures.outcome;
-      refused = tt;
-      justified = c.visit_pair.ensures.justified;
-      extends = c.visit_pair.ensures.extends;
-      size = c.visit_pair.ensures.size;
-      open_ones = c.visit_pair.ensures.open_ones;
-      total = c.visit_pair.ensures.total;
-    }
-
-pub returns-then-eq : goal.returns-then-eq
-returns-then-eq c =
-    record {
-      outcome = c.in_ok-outcome.ensures.outcome;
-      refused = tt;
-      justified = c.requires.justified;
-      extends = extends-same c.args.trail.now;
-      size = refl;
-      open_ones = omega arith;
-      total = refl;
-    }
-
-pub returns-then-is_forced : goal.returns-then-is_forced
-returns-then-is_forced c =
-    record {
-      outcome = c.in_ok-outcome-2.ensures.outcome;
-      refused = tt;
-      justified = c.force_binary.ensures.justified;
-      extends = c.force_binary.ensures.extends;
-      size = c.force_binary.ensures.size;
-      open_ones = c.force_binary.ensures.open_ones;
-      total = c.force_binary.ensures.total;
-    }
+pub returns-then-eq-clause-propagates : goal.returns-then-eq-clause-propagates
+returns-then-eq-clause-propagates c = propagates-none _ _ c.requires.justified
 
 pub force_binary-requires-clause-free : goal.force_binary-requires-clause-free
 force_binary-requires-clause-free c = sym c.value-value.ensures ∙ (c.is_forced.ensures c.if-is_forced.true).1

@@ -1,6 +1,6 @@
 use Rattle.std.proofs.Common.{arith, ◌∙◌}
 use Rattle.resolvo.proofs.PropagatorLemmas.{all-settled}
-use Rattle.resolvo.proofs.VisitLemmas.{extends-trans}
+use Rattle.resolvo.proofs.VisitLemmas.{propagates-none, propagates-trans}
 use Rattle.resolvo.proofs.propagator.visiting.propagate.Goals as goal
 
 pub returns : goal.returns
@@ -11,10 +11,7 @@ returns c =
       propagator = c.places.invariant.propagator;
       attached = c.places.invariant.attached;
       refused = tt;
-      justified = c.places.invariant.justified;
-      extends = c.places.invariant.extends;
-      size = c.places.invariant.size;
-      open_ones = c.places.invariant.open_ones;
+      propagates = c.places.invariant.propagates;
     }
 
 pub returns-in-Some : goal.returns-in-Some
@@ -25,8 +22,12 @@ returns-in-Some c =
       propagator = c.in_ok-number.ensures.propagator;
       attached = c.in_ok-number.ensures.attached;
       refused = tt;
-      justified = c.visit.ensures.justified;
-      extends = extends-trans _ _ _ c.places.invariant.extends c.visit.ensures.extends;
-      size = c.visit.ensures.size ∙ c.places.invariant.size;
-      open_ones = omega (arith, c.visit.ensures.open_ones, c.places.invariant.open_ones);
+      propagates = propagates-trans _ _ _ _ c.places.invariant.propagates c.visit.ensures.propagates;
     }
+
+pub places-init : goal.places-init
+places-init c = record {
+  propagator = c.requires.propagator;
+  attached = c.requires.attached;
+  propagates = propagates-none _ _ c.requires.justified;
+}

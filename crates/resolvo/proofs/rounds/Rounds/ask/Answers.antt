@@ -13,7 +13,7 @@ load-requires g c =
     let u = g.D.Interner.universe c.args.provider.now in
     let old = c.args.self.now in
     record {
-      rounds = rounds_added u old c.ask.new.self c.requires.rounds c.ask.ensures.bounded
+      rounds = rounds_added u old c.ask.new.self c.requires.rounds
           (asking_adds u c.version_set_name-name.result (notes_of old) (notes_in c.ask.new.self) c.in_ok-ask.ensures.alone);
     }
 
@@ -39,7 +39,7 @@ returns g c =
           let adds = asking_adds u n (notes_of old) (notes_in e) alone in
           let Own : g.row.N.Denot → Type 0 = λ m. Contains packages m in
           standing_loaded u root taken refused seeds packages (record old { encoding = e }) c.load.new.self
-          (rounds_added u old e c.requires.rounds c.ask.ensures.bounded adds).variables c.in_ok-load.ensures.same c.in_ok-load.ensures.turn
+          (rounds_added u old e c.requires.rounds adds).variables c.in_ok-load.ensures.same c.in_ok-load.ensures.turn
           (standing_asked u root taken refused seeds packages old e c.requires.rounds adds alone.exempt b n
           (subst Own (sym c.version_set_name-name.ensures) own) alone);
       limits = room_trans c.args.self.now (record c.args.self.now { encoding = c.ask.new.self }) c.load.new.self (record { notes = c.ask.ensures.limits; clauses = refl; learnt = refl }) c.load.ensures.limits;

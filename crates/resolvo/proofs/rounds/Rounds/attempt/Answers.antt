@@ -16,7 +16,7 @@ limits_begun {N} {S} old new exempt only =
 pub is_answered-requires-clause-rounds : goal.is_answered-requires-clause-rounds
 is_answered-requires-clause-rounds g c =
     rounds_assumed (g.D.Interner.universe c.args.provider.now) c.args.self.now c.begin_turn.new.self c.assume.new.self c.args.variable c.requires.rounds
-    c.begin_turn.ensures.bounded c.begin_turn.ensures.only c.in_ok-begin_turn.ensures.stays.so_far
+    c.begin_turn.ensures.only c.in_ok-begin_turn.ensures.stays.so_far
     c.in_ok-assume.ensures.consistent c.in_ok-assume.ensures.loaded c.in_ok-assume.ensures.gains.size c.in_ok-assume.ensures.kept
 
 pub returns-then-answered : goal.returns-then-answered

@@ -9,7 +9,7 @@ returns g c =
     record {
       is_true = c.read_root.ensures.is_true;
       rounds = begun
-          (g.D.Interner.universe c.args.provider.now) _ c.args.self.now c.read_root.new.self c.requires.fresh c.in_ok-read_root.ensures.bounded
+          (g.D.Interner.universe c.args.provider.now) _ c.args.self.now c.read_root.new.self c.requires.fresh
           c.in_ok-read_root.ensures.read;
       read = let Read : List g.row.S.Denot → Type 0 = λ chosen.
           IsReadSoFar (g.D.Interner.universe c.args.provider.now) (record { requirements = c.args.requirements.now; constraints = c.args.constraints.now }) chosen

@@ -1,6 +1,6 @@
 use Rattle.std.proofs.Common.{length, subst, sym, ◌≤◌, ◌∙◌, All, Contains, List}
 use Rattle.resolver_clause_store.specs.declared.Origin.TheVariants.{Solvable}
-use Rattle.resolver_encoding.specs.Notes.{IsBounded, notes_in}
+use Rattle.resolver_encoding.specs.Notes.{notes_in}
 use Rattle.resolver_encoding.specs.declared.encoding.Encoding.{Encoding}
 use Rattle.resolvo.specs.ClauseSearches.{trail_of}
 use Rattle.resolvo.specs.RoundStates.{notes_of}
@@ -28,7 +28,7 @@ returns g c =
       is_true = c.read_chosen.ensures.is_true;
       rounds = read_more
           (g.D.Interner.universe c.args.provider.now) c.args.self.now c.follow.new.self c.in_ok-from.from c.solvables.result.now.keys c.read_chosen.new.self
-          c.requires.rounds c.in_ok-from.ensures.following c.solvables.ensures c.in_ok-progress.ensures.bounded c.in_ok-progress.ensures.more
+          c.requires.rounds c.in_ok-from.ensures.following c.solvables.ensures c.in_ok-progress.ensures.more
           c.in_ok-progress.ensures.read;
       keeps = let old = c.args.self.now in
           goes_read (g.D.Interner.universe c.args.provider.now) old c.follow.new.self c.in_ok-from.from c.solvables.result.now.keys c.read_chosen.new.self
@@ -63,11 +63,6 @@ follow-requires-clause-identity g c = g.met.D.Interner.solvables_are_values
 
 pub follow-requires-clause-bookmark : goal.follow-requires-clause-bookmark
 follow-requires-clause-bookmark g c = c.requires.rounds.bookmark
-
-pub read_chosen-requires-clause-bounded : goal.read_chosen-requires-clause-bounded
-read_chosen-requires-clause-bounded g c =
-    let Bounded : Encoding g.row.N.Denot g.row.S.Denot → Type 0 = λ e. IsBounded e in
-    subst Bounded (sym c.in_ok-from.ensures.following.encoding) c.requires.rounds.bounded
 
 pub read_chosen-requires-clause-within : goal.read_chosen-requires-clause-within
 read_chosen-requires-clause-within g c =

@@ -17,7 +17,7 @@ load-requires g c =
     let u = g.D.Interner.universe c.args.provider.now in
     let old = c.args.self.now in
     record {
-      rounds = rounds_added u old c.end_turn.new.self c.requires.rounds c.end_turn.ensures.bounded
+      rounds = rounds_added u old c.end_turn.new.self c.requires.rounds
           (ended_adds u (notes_of old) (notes_in c.end_turn.new.self) c.in_ok-end_turn.ensures.ended);
     }
 

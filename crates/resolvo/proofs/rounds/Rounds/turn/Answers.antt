@@ -18,7 +18,7 @@ load-requires g c =
     let u = g.D.Interner.universe c.args.provider.now in
     let old = c.args.self.now in
     record {
-      rounds = rounds_added u old c.register.new.self c.requires.rounds c.register.ensures.bounded
+      rounds = rounds_added u old c.register.new.self c.requires.rounds
           (registered_adds u c.args.solvable (notes_of old) (notes_in c.register.new.self) c.in_ok-variable.ensures.registered);
     }
 
@@ -56,7 +56,7 @@ returns-in-Some g c =
           let adds = registered_adds u s (notes_of old) (notes_in e) registered in
           let same = c.in_ok-load.ensures.same in
           let loaded = standing_loaded u root taken refused seeds packages (record old { encoding = e }) new
-          (rounds_added u old e c.requires.rounds c.register.ensures.bounded adds).variables same c.in_ok-load.ensures.turn
+          (rounds_added u old e c.requires.rounds adds).variables same c.in_ok-load.ensures.turn
           (standing_registered u root taken refused seeds packages old e c.requires.rounds adds registered.exempt b s seed registered.only registered.asked) in
           let Stands : Encoding g.row.N.Denot g.row.S.Denot → Type 0 = λ x. slice_get (notes_in x).origins c.in_ok-variable.variable ≡ Some (SolvableOrigin s) in
           let At : Trail → Type 0 = λ t. slot_of t c.in_ok-variable.variable ≡ Some c.in-Some.slot in
@@ -89,7 +89,7 @@ returns-in_ok-is_chosen-in-None g c =
           let adds = registered_adds u s (notes_of old) (notes_in e) registered in
           let same = c.in_ok-load.ensures.same in
           let loaded = standing_loaded u root taken refused seeds packages (record old { encoding = e }) mid
-          (rounds_added u old e c.requires.rounds c.register.ensures.bounded adds).variables same c.in_ok-load.ensures.turn
+          (rounds_added u old e c.requires.rounds adds).variables same c.in_ok-load.ensures.turn
           (standing_registered u root taken refused seeds packages old e c.requires.rounds adds registered.exempt b s seed registered.only registered.asked) in
           let Seen : Encoding g.row.N.Denot g.row.S.Denot → Type 0 = λ x. Contains (notes_in x).seen s in
           turned_from u root taken refused seeds packages s old mid _ _ (ap chosen_in same.chosen) (ap (λ x. (notes_in x).exempt) same.encoding ∙ registered.exempt)
