@@ -12,3 +12,13 @@ pub mod LinkLemmas
 pub mod SolvableLemmas
 pub mod RangeLemmas
 pub mod ListingLemmas
+pub mod AnswerLemmas
+pub mod GuardRuns
+pub mod InputExamples
+pub mod InputLemmas
+pub mod InternLemmas
+pub mod LineWordLemmas
+pub mod SetLemmas
+pub mod UnionLemmas
+pub mod UniverseLemmas
+pub mod FrontLemmas

@@ -1,10 +1,7 @@
--- The outcome of a request.
-use Rattle.std.specs.Prelude.{◌≡◌, ◌==◌, ℕ, Bool, List, Option, ⊤, string_bytes}
-use Rattle.std.specs.Io.KnownBytes.{Appends}
-use Rattle.resolver_clause_store.specs.Universe.{Demands, Universe}
-use Rattle.resolver_clause_store.specs.declared.Rule.{Rule}
-use Rattle.resolver_report.specs.Graphs.{graph_of}
-use Rattle.resolver_report.specs.Messages.{message}
+-- The outcome of an input.
+use Rattle.std.specs.Prelude.{◌≡◌, ℕ, List, MatchResult, Result, Vec, ⊤, string_bytes}
+use Rattle.std.specs.Global.{Global}
+use Rattle.resolvo.specs.Answers.{IsSoftAnswer}
 use Rattle.resolvo.specs.Conflicts.{rules_in}
 use Rattle.resolvo.specs.Explanations.{Explains}
 use Rattle.resolvo.specs.declared.solver.UnsolvableOrCancelled.{UnsolvableOrCancelled}
@@ -12,46 +9,50 @@ use Rattle.resolvo.specs.declared.solver.UnsolvableOrCancelled.TheVariants.{Unso
 use Rattle.resolve.specs.declared.catalog.Catalog.{Catalog}
 use Rattle.resolve.specs.declared.ids.NameId.{NameId}
 use Rattle.resolve.specs.declared.ids.SolvableId.{SolvableId}
+use Rattle.resolve.specs.declared.request.InputError.{InputError}
 use Rattle.resolve.specs.declared.request.Request.{Request}
+use Rattle.resolve.specs.declared.run.Fault.{Fault}
+use Rattle.resolve.specs.declared.run.Fault.TheVariants.{BadStatement, UnreadableInput, UnwritableOutput, Exhausted as RanOut}
 use Rattle.resolve.specs.declared.run.Outcome.{Outcome}
 use Rattle.resolve.specs.declared.run.Outcome.TheVariants.{Answer, Conflict}
-use Rattle.resolve.specs.Catalogs.{catalog_universe, same_solvable_ids}
+use Rattle.resolve.specs.Inputs.{IsFirstBad, IsInput}
+use Rattle.resolve.specs.InputsView.{input_in}
+use Rattle.resolve.specs.Meaning.{Input}
+use Rattle.resolve.specs.Runs.{IsAnswer, IsAnswerTo, IsMessage, IsMessageTo}
+use Rattle.resolve.specs.Universes.{demands_of, universe_in}
 
-abbrev pub same_name_ids : NameId → NameId → Bool
-same_name_ids a b = a.0 == b.0
+-- the outcome's text is an answer to the input, or tells why there is none
+abbrev pub IsOutcomeIn : Input → Outcome → Type 0
+IsOutcomeIn input (Answer text) = IsAnswer input (string_bytes text)
+IsOutcomeIn input (Conflict text) = IsMessage input (string_bytes text)
 
--- the message of the graph of some rules, in the texts of a catalog
-abbrev pub conflict_message : Catalog → List (Rule NameId SolvableId) → List ℕ
-conflict_message it rules = message (catalog_universe it) (graph_of same_name_ids same_solvable_ids rules)
+abbrev pub IsOutcomeTo : List ℕ → Outcome → Type 0
+IsOutcomeTo bytes (Answer text) = IsAnswerTo bytes (string_bytes text)
+IsOutcomeTo bytes (Conflict text) = IsMessageTo bytes (string_bytes text)
 
--- the demands of a request
-abbrev pub demands_of : Request → Demands
-demands_of request = record { requirements = request.requirements.items; constraints = request.constraints.items }
+-- if the fault is a bad statement, it is the first one
+abbrev pub IsFaultTo : List ℕ → Fault → Type 0
+IsFaultTo bytes (BadStatement number) = IsFirstBad bytes number
+IsFaultTo bytes UnreadableInput = ⊤
+IsFaultTo bytes UnwritableOutput = ⊤
+IsFaultTo bytes (RanOut e) = ⊤
 
--- if the request has a conflict, its rules explain why
-abbrev pub IsExplained : {C : Type 0} → Request → UnsolvableOrCancelled Catalog C NameId SolvableId → Type 0
-IsExplained request (Unsolvable conflict) = Explains (catalog_universe request.catalog) (demands_of request) (rules_in conflict)
-IsExplained request (Cancelled value) = ⊤
-IsExplained request (Exhausted e) = ⊤
+abbrev pub IsToldTo : List ℕ → Result Outcome Fault → Type 0
+IsToldTo bytes told = MatchResult told (IsOutcomeTo bytes) (IsFaultTo bytes)
 
--- the text is the message of rules that explain why the request has no answer
-pub record IsMessageOf (request : Request) (text : List ℕ) : Type 0 where
-  pub rules : List (Rule NameId SolvableId)
-  pub explain : Explains (catalog_universe request.catalog) (demands_of request) rules
-  pub is : text ≡ conflict_message request.catalog rules
+-- the request is what the bytes say
+abbrev pub IsReadTo : List ℕ → Result Request Fault → Type 0
+IsReadTo bytes read = MatchResult read (λ request. IsInput bytes (input_in request)) (IsFaultTo bytes)
 
--- the text of a conflict is such a message
-abbrev pub IsOutcomeOf : Request → Outcome → Type 0
-IsOutcomeOf request (Answer text) = ⊤
-IsOutcomeOf request (Conflict text) = IsMessageOf request (string_bytes text)
+-- if the input has a conflict, its rules explain why
+abbrev pub IsExplained : {C : Type 0} → Input → UnsolvableOrCancelled Catalog C NameId SolvableId → Type 0
+IsExplained input (Unsolvable conflict) = Explains (universe_in input.tables) (demands_of input) (rules_in conflict)
+IsExplained input (Cancelled value) = ⊤
+IsExplained input (Exhausted e) = ⊤
 
--- it is the outcome of some request
-abbrev pub IsSomeOutcome : Outcome → Type 0
-IsSomeOutcome outcome = (request : Request) × IsOutcomeOf request outcome
+-- the chosen solvables are an answer to the input
+abbrev pub IsChosen : Input → Vec SolvableId Global → Type 0
+IsChosen input chosen = (exempt : List SolvableId) × IsSoftAnswer (universe_in input.tables) (demands_of input) input.soft chosen.items exempt
 
--- such a message, for some request, was written
-pub record IsConflictWritten (old new : Option (List ℕ)) : Type 0 where
-  pub request : Request
-  pub text : List ℕ
-  pub is_message : IsMessageOf request text
-  pub appended : Appends old new text
+abbrev pub IsSolved : {C : Type 0} → Input → Result (Vec SolvableId Global) (UnsolvableOrCancelled Catalog C NameId SolvableId) → Type 0
+IsSolved input answered = MatchResult answered (IsChosen input) (IsExplained input)

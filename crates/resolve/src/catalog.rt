@@ -37,6 +37,10 @@ impl Catalog {
     ghost use Rattle.resolve.specs.Catalogs.{IsFound, IsNamed, IsUnfound, catalog_universe, names_in, no_tables, packages_in, strings_in};
     ghost use Rattle.resolve.specs.Catalogs.{tables_in, unions_in, version_sets_in, versions_in};
 
+    ghost use Rattle.resolve.specs.Interning.{Interns};
+    ghost use Rattle.resolve.specs.Meaning.{name_id, same_members, same_set, solvable_in, with_name};
+    ghost use Rattle.resolve.specs.Tables.{AreTables};
+
     /// Returns a catalog without declarations.
     pub fn new(alloc: Global) -> Catalog
         ensures { tables_in result ≡ no_tables }
@@ -59,6 +63,8 @@ impl Catalog {
         ensures added { OnOk result (IsNamed self.old self.new text.now) }
         ensures packages { KeepsPackages (packages_in self.old) (packages_in self.new) }
         ensures refusal { IfErr result (IsShortage (length (names_in self.old))) }
+        ensures exact { OnOk result (tables_in self.new ≡ with_name (tables_in self.old) text.now) }
+        ensures id { IfOk result (λ id. id ≡ name_id (tables_in self.old) text.now) }
     {
         // With the length comes the fact that no two names are equal.
         prove!(self.names.len() < 1 << 63);
@@ -82,6 +88,7 @@ impl Catalog {
     pub fn find_solvable(&self, text: &str, number: u32) -> Option<SolvableId>
         ensures found { IfSome result (IsFound self.now text.now number) }
         ensures none { IfNone result (IsUnfound self.now text.now number) }
+        ensures exact { AreTables (tables_in self.now) → result ≡ solvable_in (tables_in self.now) (record { name = text.now; version = number }) }
     {
         // With the length comes the fact that no two names are equal.
         prove!(self.names.len() < 1 << 63);
@@ -130,6 +137,7 @@ impl Catalog {
     pub fn version_set(&mut self, name: NameId, range: Range) -> Result<VersionSetId, Exhausted>
         ensures interned { IfOk result (λ id. IsInterned (version_sets_in self.old) (version_sets_in self.new) (record { name = name; range = range }) id.0) }
         ensures kept { tables_in self.new ≡ record (tables_in self.old) { version_sets = version_sets_in self.new } }
+        ensures exact { IfOk result (λ id. Interns same_set (version_sets_in self.old) (version_sets_in self.new) (record { name = name; range = range }) id.0) }
         ensures refusal { IfErr result (IsShortage (length (version_sets_in self.old))) }
     {
         let (place, _) = self.version_sets.insert_full(VersionSet { name, range })?;
@@ -140,6 +148,7 @@ impl Catalog {
     pub fn union(&mut self, members: Vec<VersionSetId>) -> Result<VersionSetUnionId, Exhausted>
         ensures interned { IfOk result (λ id. IsInterned (unions_in self.old) (unions_in self.new) members.items id.0) }
         ensures kept { tables_in self.new ≡ record (tables_in self.old) { unions = unions_in self.new } }
+        ensures exact { IfOk result (λ id. Interns same_members (unions_in self.old) (unions_in self.new) members.items id.0) }
         ensures refusal { IfErr result (IsShortage (length (unions_in self.old))) }
     {
         let (place, _) = self.unions.insert_full(members)?;

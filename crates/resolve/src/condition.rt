@@ -3,7 +3,9 @@
 ghost use Rattle.std.specs.Prelude.{◌≡◌, ◌+◌, true, false, cond, Some, All, IfOk, IfErr, OnOk};
 ghost use Rattle.std.specs.List.{sum_by};
 ghost use Rattle.resolve.specs.Postfix.{IsPostfix, IsStep, depth_of, pending_count};
+ghost use Rattle.resolve.specs.Guards.{ReadsGuard, RefusesGuard};
 ghost use Rattle.resolve.specs.Statements.{IsRefusal};
+ghost use Rattle.resolve.specs.WordsView.{words_left};
 
 use crate::statement::LineError;
 use crate::words::{Spec, Words, parse_spec};
@@ -88,12 +90,12 @@ impl<'a> Reading<'a> {
     }
 
     /// Reads a spec or an opening parenthesis.
-    fn read_part(&mut self, word: &'a str) -> Result<(), LineError>
+    fn read_part(&mut self, word: &'a [u8]) -> Result<(), LineError>
         requires { self.old.wants_part ≡ true }
         ensures { IfErr result IsRefusal }
     {
         match word {
-            "(" => {
+            b"(" => {
                 self.outside.push(self.pending)?;
                 self.pending = PendingOperators::NONE;
             }
@@ -107,22 +109,22 @@ impl<'a> Reading<'a> {
     }
 
     /// Reads an operator or a closing parenthesis.
-    fn read_operator(&mut self, word: &str) -> Result<(), LineError>
+    fn read_operator(&mut self, word: &[u8]) -> Result<(), LineError>
         requires { self.old.wants_part ≡ false }
         ensures { IfErr result IsRefusal }
     {
         match word {
-            "and" => {
+            b"and" => {
                 self.join_and()?;
                 self.pending.and = true;
                 self.wants_part = true;
             }
-            "or" => {
+            b"or" => {
                 self.join_all()?;
                 self.pending.or = true;
                 self.wants_part = true;
             }
-            ")" => {
+            b")" => {
                 self.join_all()?;
                 self.pending = self.outside.pop().ok_or(LineError::Bad)?;
             }
@@ -152,6 +154,8 @@ pub fn parse_condition<'a>(
 ) -> Result<Vec<ConditionStep<'a>>, LineError>
     ensures whole { IfOk result (λ steps. IsPostfix steps.items × All IsStep steps.items) }
     ensures refused { IfErr result IsRefusal }
+    ensures guard { IfOk result (λ steps. ReadsGuard (words_left words.entry) steps.items) }
+    ensures bad { IfErr result (RefusesGuard (words_left words.entry)) }
 {
     let mut reading = Reading::new(alloc);
     for word in words {

@@ -1,6 +1,7 @@
 //! Reads statements about packages from standard input, and writes the versions to install.
 #![tactic(auto)]
 
+mod answer;
 mod catalog;
 mod condition;
 mod ids;

@@ -1,8 +1,10 @@
 //! Requests: the declarations of an input, and its problem.
 
-ghost use Rattle.std.specs.Prelude.{◌≡◌, [], ◌∷◌, ◌++◌, IfNone, IfOk, IfSome, MatchBool};
+ghost use Rattle.std.specs.Prelude.{◌≡◌, [], ◌∷◌, ◌++◌, IfNone, IfOk, IfErr, Some, IfSome, MatchBool, OnOk, ◌≢◌, length, map};
 ghost use Rattle.resolver_clause_store.specs.Laws.{HasLawfulIds, HasLawfulPackages};
 ghost use Rattle.resolve.specs.declared.request.InputError.TheVariants.{Exhausted as RanOut};
+ghost use Rattle.resolve.specs.Inputs.{IsInput};
+ghost use Rattle.resolve.specs.InputsView.{IsBadInput, input_in};
 ghost use Rattle.resolve.specs.Catalogs.{IsFound, IsUnfound, catalog_universe};
 ghost use Rattle.resolve.specs.declared.ids.SolvableId.{SolvableId};
 ghost use Rattle.resolver_clause_store.specs.declared.SoftRequirement.TheVariants.{Solvable as SoftSolvable};
@@ -48,6 +50,8 @@ pub enum InputError {
 pub fn read_request(alloc: Global, input: &[u8]) -> Result<Request, InputError>
     ensures ids { IfOk result (λ request. HasLawfulIds (catalog_universe request.catalog)) }
     ensures packages { IfOk result (λ request. HasLawfulPackages (catalog_universe request.catalog)) }
+    ensures input { IfOk result (λ request. IsInput input.now (input_in request)) }
+    ensures bad { IfErr result (IsBadInput input.now) }
 {
     let mut request = Request::new(alloc);
     let mut known = KnownWords::new(alloc);
@@ -85,6 +89,15 @@ impl From<Exhausted> for InputError {
 }
 
 impl Request {
+    ghost use Rattle.resolve.specs.Catalogs.{tables_in};
+    ghost use Rattle.resolve.specs.Guards.{AreNeed};
+    ghost use Rattle.resolve.specs.InputsView.{Adds, ReadsLine, RefusesLine, input_in};
+    ghost use Rattle.resolve.specs.StatementsSaid.{IsStatementOf};
+    ghost use Rattle.resolve.specs.Meaning.{need_in, set_id, solvable_in, union_id, with_need, with_set, with_union};
+    ghost use Rattle.resolve.specs.Said.{Need, Said, constrains_all, constrains_for, favors, locks, soft_of, soft_one};
+    ghost use Rattle.resolve.specs.Unions.{wanted_of};
+    ghost use Rattle.resolve.specs.Tables.{AreTables};
+
     fn new(alloc: Global) -> Request {
         Request {
             alloc,
@@ -96,7 +109,12 @@ impl Request {
         }
     }
 
-    fn read_line(&mut self, number: usize, line: &[u8]) -> Result<(), InputError> {
+    fn read_line(&mut self, number: usize, line: &[u8]) -> Result<(), InputError>
+        requires { AreTables (tables_in self.old.catalog) }
+        ensures tables { OnOk result (AreTables (tables_in self.new.catalog)) }
+        ensures read { OnOk result (ReadsLine line.now (input_in self.old) (input_in self.new)) }
+        ensures bad { IfErr result (RefusesLine line.now number (input_in self.old)) }
+    {
         match parse_line(self.alloc, line) {
             Ok(None) => Ok(()),
             Ok(Some(statement)) => {
@@ -111,7 +129,11 @@ impl Request {
     }
 
     /// Adds a statement. Returns `false` if it is bad; it then declares and requires nothing.
-    fn add(&mut self, statement: Statement<'_>) -> Result<bool, Exhausted> {
+    fn add(&mut self, statement: Statement<'_>) -> Result<bool, Exhausted>
+        requires { AreTables (tables_in self.old.catalog) }
+        ensures adds { (said : Said) → IsStatementOf statement.entry said → IfOk result (λ added. Adds added self.old self.new said) }
+        ensures tables { OnOk result (AreTables (tables_in self.new.catalog)) }
+    {
         match statement {
             Statement::Package(solvable) => self.declare(solvable),
             Statement::Requires {
@@ -136,6 +158,8 @@ impl Request {
         ensures only { self.new ≡ record self.old { last = self.new.last } }
         ensures found { IfSome result (IsFound self.old.catalog solvable.entry.name.now solvable.entry.version) }
         ensures none { IfNone result (IsUnfound self.old.catalog solvable.entry.name.now solvable.entry.version) }
+        ensures exact { AreTables (tables_in self.old.catalog) → result ≡ solvable_in (tables_in self.old.catalog)
+            (record { name = solvable.entry.name.now; version = solvable.entry.version }) }
     {
         if let Some(last) = self.last {
             if self
@@ -176,7 +200,11 @@ impl Request {
         &mut self,
         solvable: SolvableText<'_>,
         spec: Spec<'_>,
-    ) -> Result<bool, Exhausted> {
+    ) -> Result<bool, Exhausted>
+        requires { AreTables (tables_in self.old.catalog) }
+        ensures { IfOk result (λ added. Adds added self.old self.new
+            (constrains_for (record { name = solvable.entry.name.now; version = solvable.entry.version }) (wanted_of spec.entry))) }
+    {
         let Some(solvable) = self.find(solvable) else {
             return Ok(false);
         };
@@ -193,14 +221,20 @@ impl Request {
         Ok(self.catalog.packages.set_unknown(solvable, reason))
     }
 
-    fn favor(&mut self, solvable: SolvableText<'_>) -> bool {
+    fn favor(&mut self, solvable: SolvableText<'_>) -> bool
+        requires { AreTables (tables_in self.old.catalog) }
+        ensures { Adds result self.old self.new (favors (record { name = solvable.entry.name.now; version = solvable.entry.version })) }
+    {
         match self.find(solvable) {
             None => false,
             Some(solvable) => self.catalog.packages.favor(solvable),
         }
     }
 
-    fn lock(&mut self, solvable: SolvableText<'_>) -> bool {
+    fn lock(&mut self, solvable: SolvableText<'_>) -> bool
+        requires { AreTables (tables_in self.old.catalog) }
+        ensures { Adds result self.old self.new (locks (record { name = solvable.entry.name.now; version = solvable.entry.version })) }
+    {
         match self.find(solvable) {
             None => false,
             Some(solvable) => self.catalog.packages.lock(solvable),
@@ -227,7 +261,9 @@ impl Request {
         Ok(true)
     }
 
-    fn constrain(&mut self, spec: Spec<'_>) -> Result<bool, Exhausted> {
+    fn constrain(&mut self, spec: Spec<'_>) -> Result<bool, Exhausted>
+        ensures { IfOk result (λ added. Adds added self.old self.new (constrains_all (wanted_of spec.entry))) }
+    {
         let version_set = self.version_set(spec)?;
         self.constraints.push(version_set)?;
         Ok(true)
@@ -235,6 +271,8 @@ impl Request {
 
     /// Adds a soft requirement of a solvable. Returns `false` if it was not declared.
     fn add_soft_requirement(&mut self, solvable: SolvableText<'_>) -> Result<bool, Exhausted>
+        requires { AreTables (tables_in self.old.catalog) }
+        ensures adds { IfOk result (λ added. Adds added self.old self.new (soft_one (record { name = solvable.entry.name.now; version = solvable.entry.version }))) }
         ensures only { self.new ≡ record self.old { soft_requirements = self.new.soft_requirements } }
         ensures added { IfOk result (λ declared.
             MatchBool declared ((s : SolvableId) × IsFound self.old.catalog solvable.entry.name.now solvable.entry.version s ×
@@ -251,14 +289,20 @@ impl Request {
     }
 
     /// Adds a soft requirement of a version set. It is not bad if the package has no candidates.
-    fn add_soft_version_set(&mut self, spec: Spec<'_>) -> Result<bool, Exhausted> {
+    fn add_soft_version_set(&mut self, spec: Spec<'_>) -> Result<bool, Exhausted>
+        ensures { IfOk result (λ added. Adds added self.old self.new (soft_of (wanted_of spec.entry))) }
+    {
         let version_set = self.version_set(spec)?;
         self.soft_requirements
             .push(SoftRequirement::Matching(version_set))?;
         Ok(true)
     }
 
-    fn version_set(&mut self, spec: Spec<'_>) -> Result<VersionSetId, Exhausted> {
+    fn version_set(&mut self, spec: Spec<'_>) -> Result<VersionSetId, Exhausted>
+        ensures only { self.new ≡ record self.old { catalog = self.new.catalog } }
+        ensures exact { OnOk result (tables_in self.new.catalog ≡ with_set (tables_in self.old.catalog) (wanted_of spec.entry)) }
+        ensures id { IfOk result (λ id. id ≡ set_id (tables_in self.old.catalog) (wanted_of spec.entry)) }
+    {
         let name = self.catalog.name(spec.name)?;
         self.catalog.version_set(name, spec.versions)
     }
@@ -268,7 +312,13 @@ impl Request {
         &mut self,
         union: &[Spec<'_>],
         condition: &[ConditionStep<'_>],
-    ) -> Result<Option<ConditionalRequirement>, Exhausted> {
+    ) -> Result<Option<ConditionalRequirement>, Exhausted>
+        ensures only { self.new ≡ record self.old { catalog = self.new.catalog } }
+        ensures need { (need : Need) → AreNeed union.entry.now condition.entry.now need →
+            OnOk result (tables_in self.new.catalog ≡ with_need (tables_in self.old.catalog) need) }
+        ensures id { (need : Need) → AreNeed union.entry.now condition.entry.now need →
+            IfOk result (λ made. made ≡ Some (need_in (tables_in self.old.catalog) need)) }
+    {
         let requirement = self.union(union)?;
         if condition.is_empty() {
             return Ok(Some(ConditionalRequirement {
@@ -286,10 +336,24 @@ impl Request {
     }
 
     /// Returns the requirement of some specs. A single spec gives a version set, and no union.
-    fn union(&mut self, union: &[Spec<'_>]) -> Result<Requirement, Exhausted> {
+    fn union(&mut self, union: &[Spec<'_>]) -> Result<Requirement, Exhausted>
+        ensures only { self.new ≡ record self.old { catalog = self.new.catalog } }
+        ensures exact { OnOk result (tables_in self.new.catalog ≡ with_union (tables_in self.old.catalog) (map wanted_of union.entry.now)) }
+        ensures id { IfOk result (λ requirement. requirement ≡ union_id (tables_in self.old.catalog) (map wanted_of union.entry.now)) }
+    {
         if let [spec] = union {
             return Ok(Requirement::Single(self.version_set(*spec)?));
         }
+        self.joint_union(union)
+    }
+
+    /// Returns the requirement of no spec, or of two or more.
+    fn joint_union(&mut self, union: &[Spec<'_>]) -> Result<Requirement, Exhausted>
+        requires { length union.now ≢ 1 }
+        ensures only { self.new ≡ record self.old { catalog = self.new.catalog } }
+        ensures exact { OnOk result (tables_in self.new.catalog ≡ with_union (tables_in self.old.catalog) (map wanted_of union.entry.now)) }
+        ensures id { IfOk result (λ requirement. requirement ≡ union_id (tables_in self.old.catalog) (map wanted_of union.entry.now)) }
+    {
         let mut members = Vec::new(self.alloc);
         for spec in union {
             members.push(self.version_set(*spec)?)?;
@@ -332,5 +396,6 @@ impl Request {
 }
 
 mod known;
+
 #[cfg(test)]
 mod tests;

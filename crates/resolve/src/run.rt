@@ -1,19 +1,24 @@
 //! From an input to an answer, with the streams of a program.
 
-ghost use Rattle.std.specs.Prelude.{◌≡◌, ◌≢◌, ◌<◌, ◌≤◌, IfErr, IfOk, OnOk, string_bytes};
+ghost use Rattle.std.specs.Prelude.{◌≡◌, ◌≢◌, ◌<◌, ◌≤◌, ℕ, List, IfErr, IfOk, MatchBool, OnOk, Some, string_bytes};
 ghost use Rattle.std.specs.Io.KnownBytes.{Appends};
 ghost use Rattle.resolver_clause_store.specs.declared.data.Exhausted.TheVariants.{Memory};
 ghost use Rattle.resolve.specs.declared.run.Fault.TheVariants.{Exhausted as RanOut};
 ghost use Rattle.resolvo.specs.Conflicts.{rules_in};
 ghost use Rattle.resolvo.specs.Solvers.{provider_in};
-ghost use Rattle.resolve.specs.Faults.{exhausted_text, fault_of, status_of};
-ghost use Rattle.resolve.specs.Outcomes.{IsConflictWritten, IsExplained, IsOutcomeOf, IsSomeOutcome, conflict_message};
-ghost use Rattle.resolve.specs.declared.request.Request.{Request};
+ghost use Rattle.resolve.specs.Catalogs.{tables_in};
+ghost use Rattle.resolve.specs.Faults.{IsFaultTold, exhausted_text, fault_of, fault_text_of, status_of};
+ghost use Rattle.resolve.specs.InputsView.{input_in};
+ghost use Rattle.resolve.specs.Meaning.{Input};
+ghost use Rattle.resolve.specs.Outcomes.{IsExplained, IsFaultTo, IsOutcomeIn, IsOutcomeTo, IsReadTo, IsSolved, IsToldTo};
+ghost use Rattle.resolve.specs.Runs.{AppendsFront, IsRun, bad_text, told};
 
+
+use crate::answer::answer_text;
 use crate::catalog::Catalog;
 use crate::ids::{NameId, SolvableId};
 use crate::request::{InputError, Request, read_request};
-use itertools::Itertools;
+use itoa::Buffer;
 use resolver_clause_store::Exhausted;
 use resolvo::{Conflict, Problem, Solver, UnsolvableOrCancelled};
 use std::alloc::{AllocError, AllocFailed, Global};
@@ -22,6 +27,9 @@ use std::{io, mem};
 
 /// A size of blocks, in bytes, that the C library's allocator always takes from its heap.
 const SMALL_BLOCK: usize = 4096;
+
+/// How often a text of an error is tried to be written on.
+const MOST_WRITES: usize = 1024;
 
 /// Why there is neither an answer nor a conflict.
 #[derive(Clone, Copy, PartialEq, Eq)]
@@ -77,13 +85,13 @@ pub(crate) enum Outcome {
     Conflict(String),
 }
 
-/// Returns the text for memory or ids that ran out, without a line end.
+/// Returns the line for memory or ids that ran out.
 pub fn fault_text(e: Exhausted) -> &'static str
     ensures { result.now ≡ exhausted_text e }
 {
     match e {
-        Exhausted::Memory => "resolve: out of memory",
-        Exhausted::Ids => "resolve: out of ids",
+        Exhausted::Memory => "resolve: out of memory\n",
+        Exhausted::Ids => "resolve: out of ids\n",
     }
 }
 
@@ -102,7 +110,8 @@ pub fn fault_text(e: Exhausted) -> &'static str
 /// | memory is refused | nothing | `resolve: out of memory` | 4 |
 /// | ids are at their limit | nothing | `resolve: out of ids` | 4 |
 ///
-/// An answer or a message is complete before its first byte is written. A failed write of an error changes no status.
+/// An answer or a message is complete before its first byte is written. A failed write of an error changes no status, and
+/// ends the text.
 pub fn run<R: Read + Drop, O: Write, E: Write>(
     alloc: Global,
     input: R,
@@ -111,8 +120,10 @@ pub fn run<R: Read + Drop, O: Write, E: Write>(
 ) -> u8
     ensures status { result ≤ 4 }
     ensures output_kept { 1 < result → result ≢ 3 → output.new ≡ output.old }
-    ensures conflict { result ≡ 1 → IsConflictWritten (O.contents output.old) (O.contents output.new) }
     ensures errors_kept { result < 2 → errors.new ≡ errors.old }
+    ensures means { (bytes : List ℕ) → R.remaining input ≡ Some bytes →
+        IsRun bytes result (O.contents output.old) (O.contents output.new) (E.contents errors.old) (E.contents errors.new) }
+    ensures fault { IsFaultTold result (E.contents errors.old) (E.contents errors.new) }
 {
     let told = answer(alloc, input);
     let status = tell(&told, output, errors);
@@ -124,8 +135,10 @@ pub fn run<R: Read + Drop, O: Write, E: Write>(
 fn tell<O: Write, E: Write>(told: &Result<Outcome, Fault>, output: &mut O, errors: &mut E) -> u8
     ensures status { result ≤ 4 }
     ensures output_kept { 1 < result → result ≢ 3 → output.new ≡ output.old }
-    ensures conflict { IfOk told.now IsSomeOutcome → result ≡ 1 → IsConflictWritten (O.contents output.old) (O.contents output.new) }
     ensures errors_kept { result < 2 → errors.new ≡ errors.old }
+    ensures means { (bytes : List ℕ) → IsToldTo bytes told.now →
+        IsRun bytes result (O.contents output.old) (O.contents output.new) (E.contents errors.old) (E.contents errors.new) }
+    ensures fault { IsFaultTold result (E.contents errors.old) (E.contents errors.new) }
 {
     match told {
         Ok(outcome) => tell_outcome(outcome, output, errors),
@@ -137,8 +150,10 @@ fn tell<O: Write, E: Write>(told: &Result<Outcome, Fault>, output: &mut O, error
 fn tell_outcome<O: Write, E: Write>(outcome: &Outcome, output: &mut O, errors: &mut E) -> u8
     ensures status { result ≤ 4 }
     ensures output_kept { 1 < result → result ≢ 3 → output.new ≡ output.old }
-    ensures conflict { IsSomeOutcome outcome.now → result ≡ 1 → IsConflictWritten (O.contents output.old) (O.contents output.new) }
     ensures errors_kept { result < 2 → errors.new ≡ errors.old }
+    ensures means { (bytes : List ℕ) → IsOutcomeTo bytes outcome.now →
+        IsRun bytes result (O.contents output.old) (O.contents output.new) (E.contents errors.old) (E.contents errors.new) }
+    ensures fault { IsFaultTold result (E.contents errors.old) (E.contents errors.new) }
 {
     match outcome {
         Outcome::Conflict(text) => match write_text(output, text) {
@@ -152,31 +167,66 @@ fn tell_outcome<O: Write, E: Write>(outcome: &Outcome, output: &mut O, errors: &
     }
 }
 
-/// Writes the text of a fault, and returns its status.
+/// Writes the text of a fault as far as the stream takes it, and returns the status.
 fn report<E: Write>(errors: &mut E, fault: Fault) -> u8
     ensures status { result ≡ status_of fault }
-    ensures least { 2 ≤ result }
-    ensures most { result ≤ 4 }
+    ensures text { AppendsFront (E.contents errors.old) (E.contents errors.new) (fault_text_of fault) }
 {
     match fault {
         Fault::BadStatement(line) => {
-            let _ = writeln!(errors, "resolve: line {line}: bad statement");
+            report_line(errors, line);
             2
         }
         Fault::UnreadableInput => {
-            let _ = writeln!(errors, "resolve: cannot read input");
+            write_front(errors, b"resolve: cannot read input\n");
             3
         }
         Fault::UnwritableOutput => {
-            let _ = writeln!(errors, "resolve: cannot write output");
+            write_front(errors, b"resolve: cannot write output\n");
             3
         }
         Fault::Exhausted(e) => {
-            let text = fault_text(e);
-            let _ = writeln!(errors, "{text}");
+            write_front(errors, fault_text(e).as_bytes());
             4
         }
     }
+}
+
+/// Writes the text of a bad statement in this line.
+fn report_line<E: Write>(errors: &mut E, line: usize)
+    ensures { AppendsFront (E.contents errors.old) (E.contents errors.new) (bad_text line) }
+{
+    let mut number = Buffer::new();
+    if !write_front(errors, b"resolve: line ") {
+        return;
+    }
+    if !write_front(errors, number.format(line).as_bytes()) {
+        return;
+    }
+    write_front(errors, b": bad statement\n");
+}
+
+/// Writes a text up to the first failure, and returns whether it was written whole. Interrupted writes are tried again.
+fn write_front<E: Write>(errors: &mut E, text: &[u8]) -> bool
+    ensures { MatchBool result (Appends (E.contents errors.old) (E.contents errors.new) text.now)
+        (AppendsFront (E.contents errors.old) (E.contents errors.new) text.now) }
+{
+    let mut rest = text;
+    for _ in 0..MOST_WRITES {
+        if rest.is_empty() {
+            return true;
+        }
+        match errors.write(rest) {
+            Ok(0) => return false,
+            Ok(count) => rest = &rest[count..],
+            Err(e) => {
+                if e.kind() != io::ErrorKind::Interrupted {
+                    return false;
+                }
+            }
+        }
+    }
+    false
 }
 
 /// Writes a whole text.
@@ -193,7 +243,10 @@ fn write_text<O: Write>(output: &mut O, text: &str) -> Result<(), Fault>
     }
 }
 
-fn read_input<R: Read + Drop>(alloc: Global, mut input: R) -> Result<Vec<u8>, Fault> {
+fn read_input<R: Read + Drop>(alloc: Global, mut input: R) -> Result<Vec<u8>, Fault>
+    ensures bytes { (bytes : List ℕ) → R.remaining input ≡ Some bytes → IfOk result (λ read. read.items ≡ bytes) }
+    ensures fault { (bytes : List ℕ) → IfErr result (IsFaultTo bytes) }
+{
     let mut bytes = Vec::new(alloc);
     match input.read_to_end(&mut bytes) {
         Ok(_) => Ok(bytes),
@@ -208,19 +261,25 @@ fn read_input<R: Read + Drop>(alloc: Global, mut input: R) -> Result<Vec<u8>, Fa
 
 /// Returns the outcome of an input.
 fn answer<R: Read + Drop>(alloc: Global, input: R) -> Result<Outcome, Fault>
-    ensures { IfOk result IsSomeOutcome }
+    ensures { (bytes : List ℕ) → R.remaining input ≡ Some bytes → IsToldTo bytes result }
 {
-    let request = read_all(alloc, input)?;
-    let outcome = solve_request(alloc, request)?;
-    Ok(outcome)
+    match read_all(alloc, input) {
+        Ok(request) => solve_request(alloc, request),
+        Err(fault) => Err(fault),
+    }
 }
 
 /// Reads the statements of an input, and frees its text, which leaves that memory to the solver.
 ///
 /// The buffer is shrunk first. After a large block is freed, the C library's allocator takes blocks of that size from its heap, where a list
 /// that grows is copied and leaves a hole. (`read_request` does the same with the words that it knows.)
-fn read_all<R: Read + Drop>(alloc: Global, input: R) -> Result<Request, Fault> {
-    let mut bytes = read_input(alloc, input)?;
+fn read_all<R: Read + Drop>(alloc: Global, input: R) -> Result<Request, Fault>
+    ensures { (bytes : List ℕ) → R.remaining input ≡ Some bytes → IsReadTo bytes result }
+{
+    let mut bytes = match read_input(alloc, input) {
+        Ok(bytes) => bytes,
+        Err(fault) => return Err(fault),
+    };
     let request = read_request(alloc, &bytes);
     bytes.clear();
     bytes.shrink_to(SMALL_BLOCK);
@@ -232,7 +291,8 @@ fn read_all<R: Read + Drop>(alloc: Global, input: R) -> Result<Request, Fault> {
 ///
 /// The solver's memory is not freed, because the program ends.
 fn solve_request(alloc: Global, request: Request) -> Result<Outcome, Fault>
-    ensures { IfOk result (IsOutcomeOf request) }
+    ensures outcome { IfOk result (IsOutcomeIn (input_in request)) }
+    ensures fault { (bytes : List ℕ) → IfErr result (IsFaultTo bytes) }
 {
     let problem = Problem::new()
         .requirements(request.requirements)
@@ -252,7 +312,8 @@ fn outcome_of(
     solver: &Solver<Catalog>,
     answered: &Result<Vec<SolvableId>, UnsolvableOrCancelled<Catalog>>,
 ) -> Result<Outcome, Fault>
-    ensures { (request : Request) → provider_in solver.now ≡ request.catalog → IfErr answered.now (IsExplained request) → IfOk result (IsOutcomeOf request) }
+    ensures outcome { (input : Input) → tables_in (provider_in solver.now) ≡ input.tables → IsSolved input answered.now → IfOk result (IsOutcomeIn input) }
+    ensures fault { (bytes : List ℕ) → IfErr result (IsFaultTo bytes) }
 {
     match answered {
         Ok(chosen) => Ok(Outcome::Answer(answer_text(alloc, solver.provider(), chosen)?)),
@@ -265,7 +326,8 @@ fn refusal_of(
     solver: &Solver<Catalog>,
     why: &UnsolvableOrCancelled<Catalog>,
 ) -> Result<Outcome, Fault>
-    ensures { (request : Request) → provider_in solver.now ≡ request.catalog → IsExplained request why.now → IfOk result (IsOutcomeOf request) }
+    ensures outcome { (input : Input) → tables_in (provider_in solver.now) ≡ input.tables → IsExplained input why.now → IfOk result (IsOutcomeIn input) }
+    ensures fault { (bytes : List ℕ) → IfErr result (IsFaultTo bytes) }
 {
     match why {
         UnsolvableOrCancelled::Unsolvable(conflict) => {
@@ -281,27 +343,13 @@ fn conflict_text(
     solver: &Solver<Catalog>,
     conflict: &Conflict<NameId, SolvableId>,
 ) -> Result<String, Fault>
-    ensures { IfOk result (λ text. string_bytes text ≡ conflict_message (provider_in solver.now) (rules_in conflict.now)) }
+    ensures text { IfOk result (λ text. string_bytes text ≡ told (tables_in (provider_in solver.now)) (rules_in conflict.now)) }
+    ensures fault { (bytes : List ℕ) → IfErr result (IsFaultTo bytes) }
 {
     let message = conflict.display_user_friendly(solver)?;
     let text = message.text();
     drop(message);
     Ok(text?)
-}
-
-/// Returns the lines of the chosen solvables, ordered by the bytes of the names and then by version.
-fn answer_text(alloc: Global, catalog: &Catalog, chosen: &[SolvableId]) -> Result<String, Fault> {
-    let labels = chosen.iter().map(|solvable| catalog.label(*solvable));
-    let mut text = String::new(alloc);
-    for (name, version) in labels.sorted_unstable(alloc)? {
-        write_label(&mut text, name, version)?;
-    }
-    Ok(text)
-}
-
-fn write_label(text: &mut String, name: &str, version: u32) -> Result<(), AllocError> {
-    use std::fmt::Write;
-    writeln!(text, "{name}={version}")
 }
 
 #[cfg(test)]

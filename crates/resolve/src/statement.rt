@@ -5,10 +5,16 @@ ghost use Rattle.std.specs.List.{find};
 ghost use Rattle.resolver_clause_store.specs.declared.data.Exhausted.TheVariants.{Memory};
 ghost use Rattle.resolve.specs.declared.statement.LineError.TheVariants.{Exhausted as RanOut};
 ghost use Rattle.resolve.specs.Statements.{IsAnyCondition, IsRefusal, IsRequirement, IsWellFormed, StatesNothing};
+ghost use Rattle.std.specs.Prelude.{[], ℕ, List, ◌∷◌, IsTrue, MatchOption, codes, map};
 ghost use Rattle.resolve.specs.Words.{IsName, IsSpec};
+ghost use Rattle.resolve.specs.Said.{Named, Wanted};
+ghost use Rattle.resolve.specs.Spelling.{Names, Wants};
+ghost use Rattle.resolve.specs.Unions.{ReadsUnion, RefusesUnion, wanted_of};
+ghost use Rattle.resolve.specs.WordsView.{words_left};
+ghost use Rattle.resolve.specs.StatementsSaid.{Reads, Refuses};
 
 use crate::condition::{ConditionStep, parse_condition};
-use crate::words::{SolvableText, Spec, Words, parse_solvable, parse_spec};
+use crate::words::{SolvableText, Spec, Words, parse_solvable, parse_spec, without_spaces};
 use resolver_clause_store::Exhausted;
 use std::alloc::{AllocError, AllocFailed, Global};
 use std::str;
@@ -99,6 +105,8 @@ pub fn parse_line<'a>(alloc: Global, line: &'a [u8]) -> Result<Option<Statement<
     ensures skipped { (result ≡ Ok None) ↔ StatesNothing line.now }
     ensures statement { IfOk result (λ statement. IfSome statement IsWellFormed) }
     ensures refused { IfErr result IsRefusal }
+    ensures says { IfOk result (λ statement. IfSome statement (Reads line.now)) }
+    ensures bad { IfErr result (Refuses line.now) }
 {
     match first_byte(line) {
         None | Some(b'#') => Ok(None),
@@ -106,15 +114,12 @@ pub fn parse_line<'a>(alloc: Global, line: &'a [u8]) -> Result<Option<Statement<
     }
 }
 
-/// Parses a line that states something. A line that is not UTF-8 is bad.
+/// Parses a line that states something. A reason that is not UTF-8 is bad.
 fn parse_text<'a>(alloc: Global, line: &'a [u8]) -> Result<Statement<'a>, LineError>
     ensures statement { IfOk result IsWellFormed }
     ensures refused { IfErr result IsRefusal }
 {
-    match str::from_utf8(line) {
-        Ok(text) => parse_statement(alloc, Words::new(text)),
-        Err(_) => Err(LineError::Bad),
-    }
+    parse_statement(alloc, Words::new(line))
 }
 
 /// Returns the first byte other than a space.
@@ -135,7 +140,7 @@ fn parse_statement<'a>(alloc: Global, mut words: Words<'a>) -> Result<Statement<
     ensures statement { IfOk result IsWellFormed }
     ensures refused { IfErr result IsRefusal }
 {
-    let keyword = words.next().ok_or(LineError::Bad)?;
+    let keyword = words.take_word().ok_or(LineError::Bad)?;
     match list_of(keyword) {
         StatementList::Requirement => parse_require(alloc, words),
         StatementList::RequirementOfSolvable => parse_requires(alloc, words),
@@ -144,16 +149,16 @@ fn parse_statement<'a>(alloc: Global, mut words: Words<'a>) -> Result<Statement<
 }
 
 /// Returns the list that a statement with this keyword has.
-fn list_of(keyword: &str) -> StatementList {
+fn list_of(keyword: &[u8]) -> StatementList {
     match keyword {
-        "require" => StatementList::Requirement,
-        "requires" => StatementList::RequirementOfSolvable,
+        b"require" => StatementList::Requirement,
+        b"requires" => StatementList::RequirementOfSolvable,
         _ => StatementList::None,
     }
 }
 
 /// Parses a statement without a list.
-fn parse_listless<'a>(keyword: &str, words: Words<'a>) -> Result<Statement<'a>, LineError>
+fn parse_listless<'a>(keyword: &[u8], words: Words<'a>) -> Result<Statement<'a>, LineError>
     ensures statement { IfOk result IsWellFormed }
     ensures refused { IfErr result IsRefusal }
 {
@@ -185,21 +190,21 @@ fn parse_requires<'a>(alloc: Global, mut words: Words<'a>) -> Result<Statement<'
 }
 
 /// Parses the words after the keyword of a statement without a list.
-fn parse_short_statement<'a>(keyword: &str, words: Words<'a>) -> Option<Statement<'a>>
+fn parse_short_statement<'a>(keyword: &[u8], words: Words<'a>) -> Option<Statement<'a>>
     ensures { IfSome result IsWellFormed }
 {
     match keyword {
-        "constrain" => Some(Statement::Constrain(last_spec(words)?)),
-        "constrains" => parse_constrains(words),
-        "unknown" => {
+        b"constrain" => Some(Statement::Constrain(last_spec(words)?)),
+        b"constrains" => parse_constrains(words),
+        b"unknown" => {
             let (solvable, reason) = parse_reasoned(words)?;
             Some(Statement::Unknown { solvable, reason })
         }
-        "exclude" => {
+        b"exclude" => {
             let (solvable, reason) = parse_reasoned(words)?;
             Some(Statement::Exclude { solvable, reason })
         }
-        "soft" => parse_soft(words),
+        b"soft" => parse_soft(words),
         _ => parse_solvable_statement(keyword, last_solvable(words)?),
     }
 }
@@ -208,26 +213,26 @@ fn parse_short_statement<'a>(keyword: &str, words: Words<'a>) -> Option<Statemen
 fn parse_soft(mut words: Words<'_>) -> Option<Statement<'_>>
     ensures { IfSome result IsWellFormed }
 {
-    let word = words.next()?;
+    let word = words.take_word()?;
     let statement = match parse_solvable(word) {
         Some(solvable) => Statement::Soft(solvable),
         None => Statement::SoftMatching(parse_spec(word)?),
     };
-    match words.next() {
+    match words.take_word() {
         Some(_) => None,
         None => Some(statement),
     }
 }
 
 /// Returns the statement with this keyword, if it is about a solvable and nothing else.
-fn parse_solvable_statement<'a>(keyword: &str, solvable: SolvableText<'a>) -> Option<Statement<'a>>
+fn parse_solvable_statement<'a>(keyword: &[u8], solvable: SolvableText<'a>) -> Option<Statement<'a>>
     requires { IsName solvable.name.now }
     ensures { IfSome result IsWellFormed }
 {
     match keyword {
-        "package" => Some(Statement::Package(solvable)),
-        "favor" => Some(Statement::Favor(solvable)),
-        "lock" => Some(Statement::Lock(solvable)),
+        b"package" => Some(Statement::Package(solvable)),
+        b"favor" => Some(Statement::Favor(solvable)),
+        b"lock" => Some(Statement::Lock(solvable)),
         _ => None,
     }
 }
@@ -250,34 +255,60 @@ fn parse_reasoned<'a>(mut words: Words<'a>) -> Option<(SolvableText<'a>, &'a str
 }
 
 fn next_solvable<'a>(words: &mut Words<'a>) -> Option<SolvableText<'a>>
-    ensures { IfSome result (λ solvable. IsName solvable.name.now) }
+    ensures name { IfSome result (λ solvable. IsName solvable.name.now) }
+    ensures exact { MatchOption result ((word : List ℕ) (more : List (List ℕ)) (it : Named) → words_left words.old ≡ word ∷ more → Names word it → ⊥)
+        (λ solvable. (word : List ℕ) × (words_left words.old ≡ word ∷ words_left words.new) ×
+        Names word (record { name = solvable.name.now; version = solvable.version })) }
 {
-    parse_solvable(words.next()?)
+    let Some(word) = words.take_word() else {
+        return None;
+    };
+    parse_solvable(word)
 }
 
 /// Parses the next word as a solvable, if it is the last word.
 fn last_solvable(mut words: Words<'_>) -> Option<SolvableText<'_>>
-    ensures { IfSome result (λ solvable. IsName solvable.name.now) }
+    ensures name { IfSome result (λ solvable. IsName solvable.name.now) }
+    ensures exact { MatchOption result ((word : List ℕ) (it : Named) → words_left words.entry ≡ word ∷ [] → Names word it → ⊥)
+        (λ solvable. (word : List ℕ) × (words_left words.entry ≡ word ∷ []) × Names word (record { name = solvable.name.now; version = solvable.version })) }
 {
-    let solvable = next_solvable(&mut words)?;
-    words.next().is_none().then_some(solvable)
+    let Some(solvable) = next_solvable(&mut words) else {
+        return None;
+    };
+    match words.take_word() {
+        Some(_) => None,
+        None => Some(solvable),
+    }
 }
 
 /// Parses the next word as a spec, if it is the last word.
 fn last_spec(mut words: Words<'_>) -> Option<Spec<'_>>
     ensures { IfSome result IsSpec }
 {
-    let spec = parse_spec(words.next()?)?;
-    words.next().is_none().then_some(spec)
+    let spec = parse_spec(words.take_word()?)?;
+    words.take_word().is_none().then_some(spec)
 }
 
 /// Parses a reason: a text without the spaces around it, which is not empty.
-fn parse_reason(text: &str) -> Option<&str> {
-    let reason = text.trim_matches(' ');
+fn parse_reason(text: &[u8]) -> Option<&str> {
+    let reason = without_spaces_around(text);
     if reason.is_empty() {
         return None;
     }
-    Some(reason)
+    match str::from_utf8(reason) {
+        Ok(reason) => Some(reason),
+        Err(_) => None,
+    }
+}
+
+/// Returns a text without the spaces before and behind it.
+fn without_spaces_around(text: &[u8]) -> &[u8] {
+    let from = without_spaces(text);
+    let mut length = from.len();
+    while length > 0 && from[length - 1] == b' ' {
+        length -= 1;
+    }
+    &from[..length]
 }
 
 /// Parses the rest of a line as a union and an optional condition.
@@ -306,33 +337,65 @@ fn parse_requirement<'a>(
 fn parse_union<'a>(
     words: &mut Words<'a>,
     union: &mut Vec<Spec<'a>>,
-) -> Result<Option<&'a str>, LineError>
-    requires { All IsSpec union.old.items }
+) -> Result<Option<&'a [u8]>, LineError>
+    requires { union.old.items ≡ [] }
     ensures specs { OnOk result (All IsSpec union.new.items) }
     ensures nonempty { OnOk result (0 < length union.new.items) }
     ensures refused { IfErr result IsRefusal }
+    ensures read { IfOk result (λ word. ReadsUnion (words_left words.old) (words_left words.new) word (map wanted_of union.new.items)) }
+    ensures bad { IfErr result (RefusesUnion (words_left words.old)) }
 {
     loop {
-        let spec = words.next().and_then(|word| parse_spec(word));
-        union.push(spec.ok_or(LineError::Bad)?)?;
-        match words.next() {
-            Some("|") => {}
-            word => return Ok(word),
+        let spec = match next_spec(words) {
+            Ok(spec) => spec,
+            Err(e) => return Err(e),
+        };
+        union.push(spec)?;
+        let Some(word) = words.take_word() else {
+            return Ok(None);
+        };
+        if !is_bar(word) {
+            return Ok(Some(word));
         }
+    }
+}
+
+/// Returns whether a word is a bar.
+fn is_bar(word: &[u8]) -> bool
+    ensures { IsTrue result ↔ (word.now ≡ codes "|") }
+{
+    match word {
+        [b'|'] => true,
+        _ => false,
+    }
+}
+
+/// Parses the next word as a spec.
+fn next_spec<'a>(words: &mut Words<'a>) -> Result<Spec<'a>, LineError>
+    ensures read { IfOk result (λ spec. IsSpec spec × ((word : List ℕ) × (words_left words.old ≡ word ∷ words_left words.new) × Wants word (wanted_of spec))) }
+    ensures bad { IfErr result (λ e. (e ≡ LineError.Bad) × ((word : List ℕ) (more : List (List ℕ)) (it : Wanted) → words_left words.old ≡ word ∷ more →
+        Wants word it → ⊥)) }
+{
+    let Some(word) = words.take_word() else {
+        return Err(LineError::Bad);
+    };
+    match parse_spec(word) {
+        Some(spec) => Ok(spec),
+        None => Err(LineError::Bad),
     }
 }
 
 /// Parses `if` and the condition after it, unless the line ends.
 fn parse_if<'a>(
     alloc: Global,
-    word: Option<&str>,
+    word: Option<&[u8]>,
     words: Words<'a>,
 ) -> Result<Vec<ConditionStep<'a>>, LineError>
     ensures condition { IfOk result (λ steps. IsAnyCondition steps.items) }
     ensures refused { IfErr result IsRefusal }
 {
     match word {
-        Some("if") => parse_condition(alloc, words),
+        Some(b"if") => parse_condition(alloc, words),
         Some(_) => Err(LineError::Bad),
         None => Ok(Vec::new(alloc)),
     }

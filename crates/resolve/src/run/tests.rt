@@ -504,8 +504,8 @@ fn an_error_that_cannot_be_written_changes_no_status(rt: HostRuntime) {
 
 #[test]
 fn what_ran_out_has_a_text(rt: HostRuntime) {
-    assert_eq!(rt; fault_text(Exhausted::Memory), "resolve: out of memory");
-    assert_eq!(rt; fault_text(Exhausted::Ids), "resolve: out of ids");
+    assert_eq!(rt; fault_text(Exhausted::Memory), "resolve: out of memory\n");
+    assert_eq!(rt; fault_text(Exhausted::Ids), "resolve: out of ids\n");
 }
 
 #[test]

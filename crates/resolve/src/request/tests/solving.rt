@@ -97,7 +97,7 @@ impl SoftParts {
 }
 
 fn version_set(request: &mut Request, spec: &str) -> Result<VersionSetId, Fail> {
-    let Some(spec) = parse_spec(spec) else {
+    let Some(spec) = parse_spec(spec.as_bytes()) else {
         return Err(Fail::from("no spec"));
     };
     match request.version_set(spec) {
