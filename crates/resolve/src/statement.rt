@@ -400,6 +400,3 @@ fn parse_if<'a>(
         None => Ok(Vec::new(alloc)),
     }
 }
-
-#[cfg(test)]
-mod tests;

@@ -4,6 +4,7 @@ mod decisions;
 mod examples;
 mod failing;
 mod known_words;
+mod statements;
 mod without_scores;
 
 use super::{fault_text, run};
