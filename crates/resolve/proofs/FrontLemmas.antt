@@ -32,11 +32,10 @@ pub writes_more : (old held new : Option (List ℕ)) (text left : List ℕ) (cou
     WritesTo old new text (take (length left - count) (drop count left))
 writes_more old held new text left count h k =
     let rest : take (length left - count) (drop count left) ≡ drop count left =
-    take_all (length left - count) (drop count left) (omega (arith, length-drop count left)) in
-    (
+    take_all (length left - count) (drop count left) (omega (arith, length-drop count left)) in (
       h.0 ++ take count left,
       h.1 ∙ ap (λ l. h.0 ++ l) (sym (take-append-drop count left) ∙ ap (λ l. take count left ++ l) (sym rest)) ∙
-      sym (append_assoc h.0 (take count left) (take (length left - count) (drop count left))),
+          sym (append_assoc h.0 (take count left) (take (length left - count) (drop count left))),
       appends_both old held new h.0 (take count left) h.2 k,
     )
 

@@ -1,14 +1,14 @@
 -- The effect of a push to a table and of a write to one; packages stay lawful.
-use Rattle.std.proofs.Common.{◌≡◌, ◌≢◌, ℕ, zero, suc, ◌<◌, ◌≤◌, Bool, true, false, cond, List, [], ◌∷◌, ◌++◌, length, get_or, refl, arith, sym, ◌∙◌, subst, inl}
+use Rattle.std.proofs.Common.{◌≡◌, ℕ, zero, suc, ◌<◌, ◌≤◌, Bool, true, false, cond, List, [], ◌∷◌, ◌++◌, length, get_or, refl, arith, sym, ◌∙◌, subst, inl}
 use Rattle.std.proofs.Common.{inr, ⊎_elim, ◌⊎◌, Some, ap, set, length-append}
 use Rattle.std.specs.Prelude.{Option, Result, Ok, Err, OnOk, OnErr, slice_get, All, AllPairs, IfSome}
-use Rattle.std.proofs.lemmas.Option.{same_Some, IfSome_then, slice_get-get_or}
+use Rattle.std.proofs.lemmas.Option.{same_Some, IfSome_then}
 use Rattle.std.proofs.lemmas.List.Elements.{All-weaker, All-push}
 use Rattle.std.proofs.lemmas.List.Quantifiers.{all_pairs_push}
 use Rattle.resolve.specs.declared.ids.SolvableId.{SolvableId}
 use Rattle.resolve.specs.declared.ids.Version.{Version}
-use Rattle.resolve.specs.Listings.{Package, no_versions, with_candidate}
-use Rattle.resolve.specs.Packages.{candidates_of, IsDeclared, name_of, IsVersionOf, IsPackageOf, ArePackagesOf}
+use Rattle.resolve.specs.Listings.{Package}
+use Rattle.resolve.specs.Packages.{name_of, IsVersionOf, IsPackageOf, ArePackagesOf}
 use Rattle.resolver_clause_store.proofs.ListLemmas.{slice_get-append_left, slice_get-last}
 use Rattle.resolver_clause_store.proofs.PlaceLemmas.{place_cases}
 
@@ -125,39 +125,11 @@ pub new_last : (b : Bool) (xs ys : List Version) (y : Version) → b ≡ false �
 new_last true xs ys y e f = absurd cc
 new_last false xs ys y e f = f
 
-slice_get-set_same : {X : Type 0} (xs : List X) (i : ℕ) (y : X) → i < length xs → slice_get (set xs i y) i ≡ Some y
-slice_get-set_same [] i y h = absurd (omega arith)
-slice_get-set_same (x ∷ xs) zero y h = refl
-slice_get-set_same (x ∷ xs) (suc i) y h = slice_get-set_same xs i y (omega arith)
-
-slice_get-set_other : {X : Type 0} (xs : List X) (i : ℕ) (y : X) (k : ℕ) → k ≢ i → slice_get (set xs i y) k ≡ slice_get xs k
-slice_get-set_other [] i y k h = refl
-slice_get-set_other (x ∷ xs) zero y zero h = absurd (h refl)
-slice_get-set_other (x ∷ xs) zero y (suc k) h = refl
-slice_get-set_other (x ∷ xs) (suc i) y zero h = refl
-slice_get-set_other (x ∷ xs) (suc i) y (suc k) h = slice_get-set_other xs i y k (λ e. h (ap suc e))
-
--- the table after a version was listed
-pub IsDeclared-listed : (vs ws : List Version) (ps qs : List Package) (v : Version) (id : ℕ) → ws ≡ vs ++ v ∷ [] → v.name.0 < length ps →
-    id ≡ length vs → qs ≡ set ps v.name.0 (with_candidate (get_or ps v.name.0 no_versions) (record { 0 = id })) → IsDeclared vs ws ps qs v
-IsDeclared-listed vs ws ps qs v id added within at written =
-    let new : Package = with_candidate (get_or ps v.name.0 no_versions) (record { 0 = id }) in
-    let now : slice_get qs v.name.0 ≡ Some new = ap (λ (rs : List Package). slice_get rs v.name.0) written ∙ slice_get-set_same ps v.name.0 new within in
-    let before : slice_get ps v.name.0 ≡ Some (get_or ps v.name.0 no_versions) = slice_get-get_or ps v.name.0 no_versions within in
-    record {
-      last = added;
-      listed = ap candidates_of now ∙ ap (λ (k : ℕ). (get_or ps v.name.0 no_versions).candidates ++ record { 0 = k } ∷ []) at ∙
-          ap (λ (xs : List SolvableId). xs ++ record { 0 = length vs } ∷ []) (sym (ap candidates_of before));
-      others = λ n other. ap (λ (rs : List Package). slice_get rs n) written ∙ slice_get-set_other ps v.name.0 new n other;
-    }
+pub few_more : (vs ws : List Version) (v : Version) (id : ℕ) → ws ≡ vs ++ v ∷ [] → id ≡ length vs → id < 4294967295 → length ws ≤ 4294967295
+few_more vs ws v id added at small = omega (arith, ap length added, length-append vs (v ∷ []), at, small)
 
 -- packages after a call that may be refused
 pub ArePackagesOf-tried : {X E : Type 0} (vs : List Version) (ps qs new : List Package) (result : Result X E) → OnOk result (qs ≡ new) →
     OnErr result (qs ≡ ps) → ArePackagesOf vs ps → ArePackagesOf vs new → ArePackagesOf vs qs
 ArePackagesOf-tried vs ps qs new (Ok x) made kept before after = let Q : List Package → Type 0 = λ rs. ArePackagesOf vs rs in subst Q (sym made) after
 ArePackagesOf-tried vs ps qs new (Err e) made kept before after = let Q : List Package → Type 0 = λ rs. ArePackagesOf vs rs in subst Q (sym kept) before
-
-pub KeepsPackages-push : (ps : List Package) (q : Package) (n : ℕ) (p : Package) → slice_get ps n ≡ Some p → slice_get (ps ++ q ∷ []) n ≡ Some p
-KeepsPackages-push [] q n p e = absurd cc
-KeepsPackages-push (x ∷ ps) q zero p e = e
-KeepsPackages-push (x ∷ ps) q (suc n) p e = KeepsPackages-push ps q n p e

@@ -1,5 +1,5 @@
 -- The universe of a catalog.
-use Rattle.std.specs.Prelude.{◌≡◌, ◌<◌, ◌⊎◌, ℕ, Bool, not, ◌==◌, List, [], ◌∷◌, ◌++◌, Option, Some, None, slice_get, filter, map, codes, string_bytes, String}
+use Rattle.std.specs.Prelude.{ℕ, Bool, not, ◌==◌, List, [], ◌∷◌, ◌++◌, Option, Some, None, slice_get, filter, map, codes, string_bytes, String}
 use Rattle.std.specs.Prelude.{Vec}
 use Rattle.std.specs.Global.{Global}
 use Rattle.std.specs.Ordering.{nat_cmp}
@@ -19,7 +19,7 @@ use Rattle.resolve.specs.declared.catalog.Catalog.{Catalog}
 use Rattle.resolve.specs.Ranges.{range_takes, range_text}
 use Rattle.resolve.specs.Versions.{versions_text}
 use Rattle.resolve.specs.Sorting.{sorted_by}
-use Rattle.resolve.specs.Packages.{IsPackageAdded, name_at, version_at, preference}
+use Rattle.resolve.specs.Packages.{name_at, version_at, preference}
 use Rattle.resolve.specs.Conditions.{condition_at}
 
 -- a version set; if there is none, all versions of the first package
@@ -144,18 +144,3 @@ tables_in it = record {
 
 abbrev pub no_tables : Tables
 no_tables = record { names = []; packages = []; solvables = []; versions = []; version_sets = []; unions = []; conditions = []; strings = [] }
-
--- the solvable is the version with this number of the package with this name
-pub record IsFound (it : Catalog) (text : List ℕ) (number : ℕ) (s : SolvableId) : Type 0 where
-  pub name : NameId
-  pub named : slice_get (names_in it) name.0 ≡ Some text
-  pub numbered : slice_get (versions_in it) s.0 ≡ Some (record { name = name; number = number })
-
--- no solvable is such a version
-abbrev pub IsUnfound : Catalog → List ℕ → ℕ → Type 0
-IsUnfound it text number = (s : SolvableId) (found : IsFound it text number s) → s.0 < 4294967295 → found.name.0 < 4294967295 → ⊥
-
--- the name was there and nothing changed, or the name comes last now, with a package that has no versions
-abbrev pub IsNamed : Catalog → Catalog → List ℕ → Type 0
-IsNamed it it' text = ((names_in it' ≡ names_in it) × (packages_in it' ≡ packages_in it)) ⊎
-    ((names_in it' ≡ names_in it ++ text ∷ []) × IsPackageAdded (packages_in it) (packages_in it'))

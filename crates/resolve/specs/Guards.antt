@@ -3,11 +3,10 @@ use Rattle.std.specs.Prelude.{◌≡◌, ℕ, List, [], ◌∷◌, ◌++◌, Opt
 use Rattle.resolve.specs.declared.condition.ConditionStep.{ConditionStep}
 use Rattle.resolve.specs.declared.condition.ConditionStep.TheVariants.{Version, And, Or}
 use Rattle.resolve.specs.declared.words.Spec.{Spec}
-use Rattle.resolve.specs.declared.words.SolvableText.{SolvableText}
 use Rattle.resolve.specs.declared.statement.LineError.{LineError}
 use Rattle.resolve.specs.declared.statement.LineError.TheVariants.{Bad, Exhausted}
-use Rattle.resolve.specs.Said.{Guard, Named, Need, Wanted, on, both, either}
-use Rattle.resolve.specs.Spelling.{Guards, Needs, any_of}
+use Rattle.resolve.specs.Said.{Guard, Need, Wanted, on, both, either}
+use Rattle.resolve.specs.Spelling.{Guards, any_of}
 use Rattle.resolve.specs.Unions.{wanted_of}
 
 -- a step as a guard has it

@@ -3,7 +3,6 @@ use Rattle.std.specs.Prelude.{◌≡◌, ℕ, ◌<◌, ◌≤◌, ◌⊎◌, ⊤
 use Rattle.resolve.specs.declared.ids.Version.{Version}
 use Rattle.resolve.specs.declared.request.Request.{Request}
 use Rattle.resolve.specs.Catalogs.{Tables, tables_in}
-use Rattle.resolve.specs.Inputs.{IsFirstBad}
 use Rattle.resolve.specs.Meaning.{Input, after_one}
 use Rattle.resolve.specs.Said.{Said}
 use Rattle.resolve.specs.Spelling.{Says}
@@ -35,8 +34,3 @@ pub record IsBadLine (line : List ℕ) (old : Input) : Type 0 where
 abbrev pub RefusesLine : List ℕ → ℕ → Input → InputError → Type 0
 RefusesLine line number old (BadStatement n) = (n ≡ number) × IsBadLine line old
 RefusesLine line number old (Exhausted e) = ⊤
-
--- if a statement of the input is bad, it is the first one
-abbrev pub IsBadInput : List ℕ → InputError → Type 0
-IsBadInput bytes (BadStatement n) = IsFirstBad bytes n
-IsBadInput bytes (Exhausted e) = ⊤

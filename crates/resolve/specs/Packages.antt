@@ -1,13 +1,13 @@
 -- Tables of packages and versions, and the invariants that they keep.
-use Rattle.std.specs.Prelude.{◌≡◌, ◌≢◌, [], ◌∷◌, ◌++◌, ℕ, ◌<◌, ◌≤◌, List, Option, Some, None, slice_get, slice_set, true, false, length, Contains, All}
-use Rattle.std.specs.Prelude.{AllPairs, IfSome, IsSome, IsNone}
+use Rattle.std.specs.Prelude.{◌≡◌, [], ◌∷◌, ◌++◌, ℕ, ◌<◌, ◌≤◌, List, Option, Some, None, slice_get, slice_set, true, false, length, Contains, All}
+use Rattle.std.specs.Prelude.{AllPairs, IfSome, IsSome, IsNone, slice_index_or}
 use Rattle.std.specs.Ordering.{nat_cmp, on, flip_args, then_cmp}
 use Rattle.std.specs.declared.cmp.Ordering.{Ordering}
 use Rattle.resolve.specs.declared.ids.NameId.{NameId}
 use Rattle.resolve.specs.declared.ids.SolvableId.{SolvableId}
 use Rattle.resolve.specs.declared.ids.Version.{Version}
-use Rattle.resolve.specs.Listings.{Package}
-use Rattle.resolve.specs.Solvables.{Solvable, with_constraint, with_requirement}
+use Rattle.resolve.specs.Listings.{Package, no_versions, with_candidate, with_excluded}
+use Rattle.resolve.specs.Solvables.{Solvable, no_needs, with_constraint, with_requirement}
 use Rattle.resolver_clause_store.specs.declared.ids.VersionSetId.{VersionSetId}
 use Rattle.resolver_clause_store.specs.declared.ids.StringId.{StringId}
 use Rattle.resolver_clause_store.specs.declared.data.ConditionalRequirement.{ConditionalRequirement}
@@ -52,40 +52,20 @@ ArePackagesOf versions packages = (n : ℕ) (p : Package) → slice_get packages
 abbrev pub preference : List Version → SolvableId → SolvableId → Ordering
 preference versions = then_cmp (flip_args (on (version_at versions) nat_cmp)) (on (λ s. s.0) nat_cmp)
 
--- the candidates of a package; none if there is no such package
-abbrev pub candidates_of : Option Package → List SolvableId
-candidates_of None = []
-candidates_of (Some p) = p.candidates
-
-abbrev pub candidates_at : List Package → ℕ → List SolvableId
-candidates_at packages n = candidates_of (slice_get packages n)
-
--- each package stays as it was
-abbrev pub KeepsPackages : List Package → List Package → Type 0
-KeepsPackages packages packages' = (n : ℕ) (p : Package) → slice_get packages n ≡ Some p → slice_get packages' n ≡ Some p
-
--- the package has no versions
-pub record IsEmptyPackage (p : Package) : Type 0 where
-  pub candidates : p.candidates ≡ []
-  pub favored : p.favored ≡ None
-  pub locked : p.locked ≡ None
-  pub excluded : p.excluded ≡ []
-
--- one more package was added, which has no versions
-pub record IsPackageAdded (packages packages' : List Package) : Type 0 where
-  pub added : Package
-  pub empty : IsEmptyPackage added
-  pub last : packages' ≡ packages ++ added ∷ []
-
--- the version was appended, and is the last candidate of its package; the other packages stay as they were
-pub record IsDeclared (versions versions' : List Version) (packages packages' : List Package) (version : Version) : Type 0 where
+-- the version was appended, nothing was declared of it, and it is the last candidate of its package; nothing else changed
+pub record IsDeclared (versions versions' : List Version) (solvables solvables' : List Solvable) (packages packages' : List Package)
+    (version : Version) : Type 0 where
+  pub fresh : Contains versions version → ⊥
+  pub within : version.name.0 < length packages
   pub last : versions' ≡ versions ++ version ∷ []
-  pub listed : candidates_at packages' version.name.0 ≡ candidates_at packages version.name.0 ++ record { 0 = length versions } ∷ []
-  pub others : (n : ℕ) → n ≢ version.name.0 → slice_get packages' n ≡ slice_get packages n
+  pub added : solvables' ≡ solvables ++ no_needs ∷ []
+  pub listed : packages' ≡ slice_set packages version.name.0 (with_candidate (slice_index_or packages version.name.0 no_versions) (record { 0 = length versions }))
 
 -- nothing changed, because the version is declared already, or there is no such package
-pub record IsDeclarationRefused (versions versions' : List Version) (packages packages' : List Package) (version : Version) : Type 0 where
+pub record IsDeclarationRefused (versions versions' : List Version) (solvables solvables' : List Solvable) (packages packages' : List Package)
+    (version : Version) : Type 0 where
   pub kept : versions' ≡ versions
+  pub kept_solvables : solvables' ≡ solvables
   pub kept_packages : packages' ≡ packages
   pub taken : version.name.0 < length packages → Contains versions version
 
@@ -131,13 +111,8 @@ pub record IsExcluded (versions : List Version) (solvables solvables' : List Sol
   pub included : before.is_excluded ≡ false
   pub marked : solvables' ≡ slice_set solvables s.0 (record before { is_excluded = true })
   pub package_before : Package
-  pub package_after : Package
   pub package_stood : slice_get packages (name_at versions s).0 ≡ Some package_before
-  pub written : packages' ≡ slice_set packages (name_at versions s).0 package_after
-  pub excluded : package_after.excluded ≡ package_before.excluded ++ (s, reason) ∷ []
-  pub candidates : package_after.candidates ≡ package_before.candidates
-  pub favored : package_after.favored ≡ package_before.favored
-  pub locked : package_after.locked ≡ package_before.locked
+  pub written : packages' ≡ slice_set packages (name_at versions s).0 (with_excluded package_before (s, reason))
 
 -- nothing changed, because the package of the solvable has a favored one, or there is no such package
 pub record IsFavorRefused (versions : List Version) (packages packages' : List Package) (s : SolvableId) : Type 0 where

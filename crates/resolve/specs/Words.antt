@@ -3,7 +3,6 @@ use Rattle.std.specs.Prelude.{◌≡◌, ◌≢◌, ℕ, ◌+◌, ◌<◌, ◌�
 use Rattle.std.specs.Fmt.{decimal}
 use Rattle.std.specs.Char.{is_ascii_alphanumeric}
 use Rattle.std.specs.Str.Parse.{IsNumeral, digits_value}
-use Rattle.resolve.specs.declared.words.Spec.{Spec}
 use Rattle.resolve.specs.declared.ids.Range.{Range}
 use Rattle.resolve.specs.declared.ids.Range.TheVariants.{All as EachVersion, Within}
 use Rattle.resolve.specs.declared.words.TheConstants.{VERSION_LIMIT}
@@ -58,15 +57,6 @@ StatesVersions text (Within low high) = StatesOneVersion text low high ⊎ State
 -- what follows the name in a spec of these versions
 abbrev pub StatesRangeBehind : List ℕ → Range → Type 0
 StatesRangeBehind rest versions = ((versions ≡ EachVersion) × (rest ≡ [])) ⊎ ((text : List ℕ) × (rest ≡ 64 ∷ text) × StatesVersions text versions)
-
--- each bound is at most the first number that is no version
-abbrev pub IsBounded : Range → Type 0
-IsBounded versions = (low high : ℕ) → versions ≡ Within low high → (low ≤ VERSION_LIMIT) × (high ≤ VERSION_LIMIT)
-
--- the name and the bounds are allowed in a statement
-pub record IsSpec (spec : Spec) : Type 0 where
-  pub name : IsName spec.name.now
-  pub bounds : IsBounded spec.versions
 
 -- the word is a name, or a name followed by '@' and the versions
 abbrev pub StatesSpec : List ℕ → List ℕ → Range → Type 0

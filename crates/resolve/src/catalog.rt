@@ -1,8 +1,9 @@
 //! The catalog: tables of everything that was declared.
 
-ghost use Rattle.std.specs.Prelude.{◌≡◌, ◌<◌, IfErr, IfNone, IfOk, IfSome, IsTrue, OnOk, Some, length, slice_get};
-ghost use Rattle.resolve.specs.Additions.{IsInterned, IsShortage};
-ghost use Rattle.resolve.specs.Packages.{KeepsPackages, version_at};
+ghost use Rattle.std.specs.Prelude.{◌≡◌, ◌≤◌, IfErr, IfOk, IsTrue, OnOk, Some, length, slice_get};
+ghost use Rattle.std.proofs.Props.{props};
+ghost use Rattle.resolve.specs.Additions.{IsShortage};
+ghost use Rattle.resolve.specs.Packages.{version_at};
 
 mod links;
 mod packages;
@@ -31,12 +32,13 @@ pub struct Catalog {
     unions: IndexSet<Vec<VersionSetId>>,
     pub conditions: ConditionTable,
     strings: IndexSet<String>,
+    ghost few: { length names.keys ≤ 4294967295 } by { Prim.hlevel props },
 }
 
 impl Catalog {
-    ghost use Rattle.resolve.specs.Catalogs.{IsFound, IsNamed, IsUnfound, catalog_universe, names_in, no_tables, packages_in, strings_in};
+    ghost use Rattle.resolve.specs.Catalogs.{catalog_universe, names_in, no_tables, packages_in, strings_in};
     ghost use Rattle.resolve.specs.Catalogs.{tables_in, unions_in, version_sets_in, versions_in};
-
+    ghost use Rattle.std.specs.Str.{bytes_eq};
     ghost use Rattle.resolve.specs.Interning.{Interns};
     ghost use Rattle.resolve.specs.Meaning.{name_id, same_members, same_set, solvable_in, with_name};
     ghost use Rattle.resolve.specs.Tables.{AreTables};
@@ -58,25 +60,17 @@ impl Catalog {
 
     /// Returns the package of a name, which is added if it is new. Equal names share a package.
     pub fn name(&mut self, text: &str) -> Result<NameId, Exhausted>
-        ensures interned { IfOk result (λ id. IsInterned (names_in self.old) (names_in self.new) text.now id.0) }
         ensures kept { tables_in self.new ≡ record (tables_in self.old) { names = names_in self.new; packages = packages_in self.new } }
-        ensures added { OnOk result (IsNamed self.old self.new text.now) }
-        ensures packages { KeepsPackages (packages_in self.old) (packages_in self.new) }
         ensures refusal { IfErr result (IsShortage (length (names_in self.old))) }
         ensures exact { OnOk result (tables_in self.new ≡ with_name (tables_in self.old) text.now) }
         ensures id { IfOk result (λ id. id ≡ name_id (tables_in self.old) text.now) }
     {
-        // With the length comes the fact that no two names are equal.
-        prove!(self.names.len() < 1 << 63);
         if let Some(known) = found_id(self.names.get_index_of(text)) {
             return Ok(NameId(known));
         }
+        let name = NameId(id_of(self.names.len())?);
         let key = String::from_str(self.alloc, text)?;
-        let (place, is_new) = self.names.insert_full(key)?;
-        let name = NameId(id_of(place)?);
-        if !is_new {
-            return Ok(name);
-        }
+        self.names.insert(key)?;
         if let Err(refusal) = self.packages.add_package() {
             self.names.pop();
             return Err(refusal);
@@ -86,12 +80,8 @@ impl Catalog {
 
     /// Returns the version with this number of the package with this name, if it was declared.
     pub fn find_solvable(&self, text: &str, number: u32) -> Option<SolvableId>
-        ensures found { IfSome result (IsFound self.now text.now number) }
-        ensures none { IfNone result (IsUnfound self.now text.now number) }
-        ensures exact { AreTables (tables_in self.now) → result ≡ solvable_in (tables_in self.now) (record { name = text.now; version = number }) }
+        ensures { AreTables (tables_in self.now) → result ≡ solvable_in (tables_in self.now) (record { name = text.now; version = number }) }
     {
-        // With the length comes the fact that no two names are equal.
-        prove!(self.names.len() < 1 << 63);
         let name = NameId(found_id(self.names.get_index_of(text))?);
         let version = Version { name, number };
         let found = found_id(self.packages.versions.get_index_of(&version))?;
@@ -102,7 +92,8 @@ impl Catalog {
     ///
     /// Comparing two texts costs less than looking a name up.
     pub fn is_version(&self, solvable: SolvableId, text: &str, number: u32) -> bool
-        ensures { IsTrue result → IsFound self.now text.now number solvable }
+        ensures { AreTables (tables_in self.now) → IsTrue result →
+            solvable_in (tables_in self.now) (record { name = text.now; version = number }) ≡ Some solvable }
     {
         match self.packages.versions.get_index(solvable.0 as usize) {
             None => false,
@@ -135,7 +126,6 @@ impl Catalog {
 
     /// Returns the set of versions of a package in a range. Equal sets share an id.
     pub fn version_set(&mut self, name: NameId, range: Range) -> Result<VersionSetId, Exhausted>
-        ensures interned { IfOk result (λ id. IsInterned (version_sets_in self.old) (version_sets_in self.new) (record { name = name; range = range }) id.0) }
         ensures kept { tables_in self.new ≡ record (tables_in self.old) { version_sets = version_sets_in self.new } }
         ensures exact { IfOk result (λ id. Interns same_set (version_sets_in self.old) (version_sets_in self.new) (record { name = name; range = range }) id.0) }
         ensures refusal { IfErr result (IsShortage (length (version_sets_in self.old))) }
@@ -146,7 +136,6 @@ impl Catalog {
 
     /// Returns the union of version sets in this order. Equal unions share an id.
     pub fn union(&mut self, members: Vec<VersionSetId>) -> Result<VersionSetUnionId, Exhausted>
-        ensures interned { IfOk result (λ id. IsInterned (unions_in self.old) (unions_in self.new) members.items id.0) }
         ensures kept { tables_in self.new ≡ record (tables_in self.old) { unions = unions_in self.new } }
         ensures exact { IfOk result (λ id. Interns same_members (unions_in self.old) (unions_in self.new) members.items id.0) }
         ensures refusal { IfErr result (IsShortage (length (unions_in self.old))) }
@@ -157,8 +146,8 @@ impl Catalog {
 
     /// Returns the id of a reason. Equal texts share an id.
     pub fn string(&mut self, text: &str) -> Result<StringId, Exhausted>
-        ensures interned { IfOk result (λ id. IsInterned (strings_in self.old) (strings_in self.new) text.now id.0) }
         ensures kept { tables_in self.new ≡ record (tables_in self.old) { strings = strings_in self.new } }
+        ensures exact { IfOk result (λ id. Interns bytes_eq (strings_in self.old) (strings_in self.new) text.now id.0) }
         ensures refusal { IfErr result (IsShortage (length (strings_in self.old))) }
     {
         let key = String::from_str(self.alloc, text)?;

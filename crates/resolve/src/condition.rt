@@ -1,10 +1,9 @@
 //! Conditions, in postfix order.
 
-ghost use Rattle.std.specs.Prelude.{◌≡◌, ◌+◌, true, false, cond, Some, All, IfOk, IfErr, OnOk};
-ghost use Rattle.std.specs.List.{sum_by};
-ghost use Rattle.resolve.specs.Postfix.{IsPostfix, IsStep, depth_of, pending_count};
+ghost use Rattle.std.specs.Prelude.{◌≡◌, ◌≢◌, ◌↔◌, true, false, codes, [], List, None, Some, IsTrue, IfOk, IfErr, MatchOption, OnOk};
+ghost use Rattle.resolve.specs.Signs.{sign_text};
+ghost use Rattle.resolve.specs.declared.condition.Sign.{Sign};
 ghost use Rattle.resolve.specs.Guards.{ReadsGuard, RefusesGuard};
-ghost use Rattle.resolve.specs.Statements.{IsRefusal};
 ghost use Rattle.resolve.specs.WordsView.{words_left};
 
 use crate::statement::LineError;
@@ -45,12 +44,15 @@ struct Reading<'a> {
     outside: Vec<PendingOperators>,
     /// Whether the next word has to be a spec or an opening parenthesis.
     wants_part: bool,
-    ghost balanced: { depth_of steps.items ≡ Some (pending_count pending + sum_by pending_count outside.items + cond wants_part 0 1) },
-    ghost sound: { All IsStep steps.items },
 }
 
 impl<'a> Reading<'a> {
-    fn new(alloc: Global) -> Reading<'a> {
+    ghost use Rattle.resolve.specs.Readings.{EndsWith, Level, RefusesEnd, RefusesWord, Shows, State, StepsTo, after_and, after_level, no_level, state};
+    ghost use Rattle.resolve.specs.Said.{Guard};
+
+    fn new(alloc: Global) -> Reading<'a>
+        ensures { Shows result (state [] no_level None) }
+    {
         Reading {
             steps: Vec::new(alloc),
             pending: PendingOperators::NONE,
@@ -61,11 +63,8 @@ impl<'a> Reading<'a> {
 
     /// Writes out a pending `and`.
     fn join_and(&mut self) -> Result<(), AllocError>
-        requires { self.old.wants_part ≡ false }
-        ensures part { OnOk result (self.new.wants_part ≡ false) }
-        ensures or { OnOk result (self.new.pending.or ≡ self.old.pending.or) }
-        ensures and { OnOk result (self.new.pending.and ≡ false) }
-        ensures outside { OnOk result (self.new.outside.items ≡ self.old.outside.items) }
+        ensures { (outside : List Level) (here : Level) (g : Guard) → Shows self.old (state outside here (Some g)) →
+            OnOk result (Shows self.new (after_and outside here g)) }
     {
         if self.pending.and {
             self.steps.push(ConditionStep::And)?;
@@ -76,10 +75,8 @@ impl<'a> Reading<'a> {
 
     /// Writes out the pending operators inside the innermost parentheses.
     fn join_all(&mut self) -> Result<(), AllocError>
-        requires { self.old.wants_part ≡ false }
-        ensures part { OnOk result (self.new.wants_part ≡ false) }
-        ensures pending { OnOk result (pending_count self.new.pending ≡ 0) }
-        ensures outside { OnOk result (self.new.outside.items ≡ self.old.outside.items) }
+        ensures { (outside : List Level) (here : Level) (g : Guard) → Shows self.old (state outside here (Some g)) →
+            OnOk result (Shows self.new (after_level outside here g)) }
     {
         self.join_and()?;
         if self.pending.or {
@@ -92,56 +89,102 @@ impl<'a> Reading<'a> {
     /// Reads a spec or an opening parenthesis.
     fn read_part(&mut self, word: &'a [u8]) -> Result<(), LineError>
         requires { self.old.wants_part ≡ true }
-        ensures { IfErr result IsRefusal }
+        ensures step { (s : State) → Shows self.old s → OnOk result (StepsTo s word.now self.new) }
+        ensures bad { (s : State) → Shows self.old s → IfErr result (RefusesWord s word.now) }
     {
-        match word {
-            b"(" => {
-                self.outside.push(self.pending)?;
-                self.pending = PendingOperators::NONE;
-            }
-            _ => {
-                let spec = parse_spec(word).ok_or(LineError::Bad)?;
-                self.steps.push(ConditionStep::Version(spec))?;
-                self.wants_part = false;
-            }
+        if is_open(word) {
+            self.outside.push(self.pending)?;
+            self.pending = PendingOperators::NONE;
+            return Ok(());
         }
+        let Some(spec) = parse_spec(word) else {
+            return Err(LineError::Bad);
+        };
+        self.steps.push(ConditionStep::Version(spec))?;
+        self.wants_part = false;
         Ok(())
     }
 
     /// Reads an operator or a closing parenthesis.
     fn read_operator(&mut self, word: &[u8]) -> Result<(), LineError>
         requires { self.old.wants_part ≡ false }
-        ensures { IfErr result IsRefusal }
+        ensures step { (s : State) → Shows self.old s → OnOk result (StepsTo s word.now self.new) }
+        ensures bad { (s : State) → Shows self.old s → IfErr result (RefusesWord s word.now) }
     {
-        match word {
-            b"and" => {
+        let Some(sign) = sign_of(word) else {
+            return Err(LineError::Bad);
+        };
+        match sign {
+            Sign::And => {
                 self.join_and()?;
                 self.pending.and = true;
                 self.wants_part = true;
             }
-            b"or" => {
+            Sign::Or => {
                 self.join_all()?;
                 self.pending.or = true;
                 self.wants_part = true;
             }
-            b")" => {
+            Sign::Close => {
                 self.join_all()?;
-                self.pending = self.outside.pop().ok_or(LineError::Bad)?;
+                let Some(pending) = self.outside.pop() else {
+                    return Err(LineError::Bad);
+                };
+                self.pending = pending;
             }
-            _ => return Err(LineError::Bad),
         }
         Ok(())
     }
 
+    fn read_word(&mut self, word: &'a [u8]) -> Result<(), LineError>
+        ensures step { (s : State) → Shows self.old s → OnOk result (StepsTo s word.now self.new) }
+        ensures bad { (s : State) → Shows self.old s → IfErr result (RefusesWord s word.now) }
+    {
+        if self.wants_part {
+            self.read_part(word)
+        } else {
+            self.read_operator(word)
+        }
+    }
+
     fn finish(mut self) -> Result<Vec<ConditionStep<'a>>, LineError>
-        ensures whole { IfOk result (λ steps. IsPostfix steps.items × All IsStep steps.items) }
-        ensures refused { IfErr result IsRefusal }
+        ensures ends { (s : State) → Shows self.entry s → IfOk result (λ steps. EndsWith s steps.items) }
+        ensures bad { (s : State) → Shows self.entry s → IfErr result (RefusesEnd s) }
     {
         if self.wants_part || !self.outside.is_empty() {
             return Err(LineError::Bad);
         }
         self.join_all()?;
         Ok(self.steps)
+    }
+}
+
+/// Returns whether a word is an opening parenthesis.
+fn is_open(word: &[u8]) -> bool
+    ensures { IsTrue result ↔ (word.now ≡ codes "(") }
+{
+    match word {
+        b"(" => true,
+        _ => false,
+    }
+}
+
+/// What may follow a part of a condition.
+#[derive(Clone, Copy)]
+enum Sign {
+    And,
+    Or,
+    Close,
+}
+
+fn sign_of(word: &[u8]) -> Option<Sign>
+    ensures { MatchOption result ((sign : Sign) → word.now ≢ sign_text sign) (λ sign. word.now ≡ sign_text sign) }
+{
+    match word {
+        b"and" => Some(Sign::And),
+        b"or" => Some(Sign::Or),
+        b")" => Some(Sign::Close),
+        _ => None,
     }
 }
 
@@ -152,18 +195,12 @@ pub fn parse_condition<'a>(
     alloc: Global,
     words: Words<'a>,
 ) -> Result<Vec<ConditionStep<'a>>, LineError>
-    ensures whole { IfOk result (λ steps. IsPostfix steps.items × All IsStep steps.items) }
-    ensures refused { IfErr result IsRefusal }
     ensures guard { IfOk result (λ steps. ReadsGuard (words_left words.entry) steps.items) }
     ensures bad { IfErr result (RefusesGuard (words_left words.entry)) }
 {
     let mut reading = Reading::new(alloc);
     for word in words {
-        if reading.wants_part {
-            reading.read_part(word)?;
-        } else {
-            reading.read_operator(word)?;
-        }
+        reading.read_word(word)?;
     }
     reading.finish()
 }

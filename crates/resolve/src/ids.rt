@@ -1,6 +1,6 @@
 //! Ids of packages and their versions, and ranges of versions.
 
-ghost use Rattle.std.specs.Prelude.{◌≡◌, IfOk, IfErr, IfNone, IfSome, ◌≤◌};
+ghost use Rattle.std.specs.Prelude.{◌≡◌, IfOk, IfErr, IfNone, IfSome, ◌<◌, ◌≤◌};
 ghost use Rattle.resolve.specs.Ranges.{range_takes};
 
 use resolver_clause_store::Exhausted;
@@ -52,6 +52,7 @@ pub(crate) struct Version {
 /// Returns the id of a place in a table. The place `u32::MAX` and later places have none.
 pub(crate) fn id_of(place: usize) -> Result<u32, Exhausted>
     ensures id { IfOk result (λ id. id ≡ place) }
+    ensures small { IfOk result (λ id. id < 4294967295) }
     ensures full { IfErr result (λ e. (e ≡ Exhausted.Ids) × (4294967295 ≤ place)) }
 {
     if place < u32::MAX as usize {

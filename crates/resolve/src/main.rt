@@ -5,6 +5,7 @@ mod answer;
 mod catalog;
 mod condition;
 mod ids;
+mod laws;
 mod lines;
 #[cfg(test)]
 mod report_tests;

@@ -1,18 +1,19 @@
 //! Requests: the declarations of an input, and its problem.
 
-ghost use Rattle.std.specs.Prelude.{◌≡◌, [], ◌∷◌, ◌++◌, IfNone, IfOk, IfErr, Some, IfSome, MatchBool, OnOk, ◌≢◌, length, map};
+ghost use Rattle.std.specs.Prelude.{◌≡◌, IfOk, IfErr, Some, OnOk, ◌≢◌, false, length, map, true};
 ghost use Rattle.resolver_clause_store.specs.Laws.{HasLawfulIds, HasLawfulPackages};
 ghost use Rattle.resolve.specs.declared.request.InputError.TheVariants.{Exhausted as RanOut};
-ghost use Rattle.resolve.specs.Inputs.{IsInput};
-ghost use Rattle.resolve.specs.InputsView.{IsBadInput, input_in};
-ghost use Rattle.resolve.specs.Catalogs.{IsFound, IsUnfound, catalog_universe};
-ghost use Rattle.resolve.specs.declared.ids.SolvableId.{SolvableId};
-ghost use Rattle.resolver_clause_store.specs.declared.SoftRequirement.TheVariants.{Solvable as SoftSolvable};
+ghost use Rattle.resolve.specs.Catalogs.{catalog_universe, tables_in};
+ghost use Rattle.resolve.specs.Inputs.{IsInput, RefusesInput};
+ghost use Rattle.resolve.specs.InputsView.{ReadsLine, RefusesLine, input_in};
+ghost use Rattle.resolve.specs.KnownWords.{AreKnown};
+ghost use Rattle.resolve.specs.Meaning.{no_input};
+ghost use Rattle.resolve.specs.Tables.{AreTables};
 
 use crate::catalog::Catalog;
 use crate::condition::ConditionStep;
 use crate::ids::SolvableId;
-use crate::lines::Lines;
+use crate::lines::{Line, Lines};
 use crate::statement::{LineError, Statement, parse_line};
 use crate::words::{SolvableText, Spec};
 use known::KnownWords;
@@ -51,7 +52,7 @@ pub fn read_request(alloc: Global, input: &[u8]) -> Result<Request, InputError>
     ensures ids { IfOk result (λ request. HasLawfulIds (catalog_universe request.catalog)) }
     ensures packages { IfOk result (λ request. HasLawfulPackages (catalog_universe request.catalog)) }
     ensures input { IfOk result (λ request. IsInput input.now (input_in request)) }
-    ensures bad { IfErr result (IsBadInput input.now) }
+    ensures bad { IfErr result (RefusesInput input.now) }
 {
     let mut request = Request::new(alloc);
     let mut known = KnownWords::new(alloc);
@@ -71,13 +72,36 @@ fn read_lines<'a>(
     request: &mut Request,
     known: &mut KnownWords<'a>,
     input: &'a [u8],
-) -> Result<(), InputError> {
+) -> Result<(), InputError>
+    requires start { input_in request.old ≡ no_input }
+    requires tables { AreTables (tables_in request.old.catalog) }
+    requires known { AreKnown known.old (tables_in request.old.catalog) }
+    ensures input { OnOk result (IsInput input.now (input_in request.new)) }
+    ensures bad { IfErr result (RefusesInput input.now) }
+{
     for line in Lines::new(input) {
-        if !request.read_short_line(known, line.bytes)? {
-            request.read_line(line.number, line.bytes)?;
-        }
+        read_any_line(request, known, line)?;
     }
     Ok(())
+}
+
+/// Reads a line in the fast way, or else in the slow one.
+fn read_any_line<'a>(
+    request: &mut Request,
+    known: &mut KnownWords<'a>,
+    line: Line<'a>,
+) -> Result<(), InputError>
+    requires tables { AreTables (tables_in request.old.catalog) }
+    requires known { AreKnown known.old (tables_in request.old.catalog) }
+    ensures tables { OnOk result (AreTables (tables_in request.new.catalog)) }
+    ensures known { OnOk result (AreKnown known.new (tables_in request.new.catalog)) }
+    ensures read { OnOk result (ReadsLine line.entry.bytes.now (input_in request.old) (input_in request.new)) }
+    ensures bad { IfErr result (RefusesLine line.entry.bytes.now line.entry.number (input_in request.old)) }
+{
+    if request.read_short_line(known, line.bytes)? {
+        return Ok(());
+    }
+    request.read_line(line.number, line.bytes)
 }
 
 impl From<Exhausted> for InputError {
@@ -90,15 +114,20 @@ impl From<Exhausted> for InputError {
 
 impl Request {
     ghost use Rattle.resolve.specs.Catalogs.{tables_in};
-    ghost use Rattle.resolve.specs.Guards.{AreNeed};
+    ghost use Rattle.resolve.specs.Evaluations.{Evaluated, Evaluates, Joins, Makes, evaluated};
+    ghost use Rattle.resolve.specs.Guards.{AreNeed, postfix, step_seen};
     ghost use Rattle.resolve.specs.InputsView.{Adds, ReadsLine, RefusesLine, input_in};
-    ghost use Rattle.resolve.specs.StatementsSaid.{IsStatementOf};
-    ghost use Rattle.resolve.specs.Meaning.{need_in, set_id, solvable_in, union_id, with_need, with_set, with_union};
-    ghost use Rattle.resolve.specs.Said.{Need, Said, constrains_all, constrains_for, favors, locks, soft_of, soft_one};
+    ghost use Rattle.resolve.specs.StatementsSaid.{IsStatementOf, named_of};
+    ghost use Rattle.resolve.specs.Meaning.{last_condition, need_in, no_input, set_id, solvable_in, union_id, with_guard, with_need, with_set, with_union};
+    ghost use Rattle.resolve.specs.Said.{Guard, Need, Said, constrains_all, constrains_for, declares, excludes, favors, locks, requires_any, requires_for};
+    ghost use Rattle.resolve.specs.Said.{soft_of, soft_one, unknown_for};
     ghost use Rattle.resolve.specs.Unions.{wanted_of};
     ghost use Rattle.resolve.specs.Tables.{AreTables};
 
-    fn new(alloc: Global) -> Request {
+    fn new(alloc: Global) -> Request
+        ensures input { input_in result ≡ no_input }
+        ensures tables { AreTables (tables_in result.catalog) }
+    {
         Request {
             alloc,
             catalog: Catalog::new(alloc),
@@ -132,7 +161,7 @@ impl Request {
     fn add(&mut self, statement: Statement<'_>) -> Result<bool, Exhausted>
         requires { AreTables (tables_in self.old.catalog) }
         ensures adds { (said : Said) → IsStatementOf statement.entry said → IfOk result (λ added. Adds added self.old self.new said) }
-        ensures tables { OnOk result (AreTables (tables_in self.new.catalog)) }
+        ensures tables { (said : Said) → IsStatementOf statement.entry said → IfOk result (λ added. added ≡ true → AreTables (tables_in self.new.catalog)) }
     {
         match statement {
             Statement::Package(solvable) => self.declare(solvable),
@@ -156,10 +185,8 @@ impl Request {
     /// Returns the solvable, if it was declared.
     fn find(&mut self, solvable: SolvableText<'_>) -> Option<SolvableId>
         ensures only { self.new ≡ record self.old { last = self.new.last } }
-        ensures found { IfSome result (IsFound self.old.catalog solvable.entry.name.now solvable.entry.version) }
-        ensures none { IfNone result (IsUnfound self.old.catalog solvable.entry.name.now solvable.entry.version) }
         ensures exact { AreTables (tables_in self.old.catalog) → result ≡ solvable_in (tables_in self.old.catalog)
-            (record { name = solvable.entry.name.now; version = solvable.entry.version }) }
+            (named_of solvable.entry) }
     {
         if let Some(last) = self.last {
             if self
@@ -173,7 +200,12 @@ impl Request {
         self.last
     }
 
-    fn declare(&mut self, solvable: SolvableText<'_>) -> Result<bool, Exhausted> {
+    fn declare(&mut self, solvable: SolvableText<'_>) -> Result<bool, Exhausted>
+        requires { AreTables (tables_in self.old.catalog) }
+        ensures adds { IfOk result (λ added. Adds added self.old self.new (declares (named_of solvable.entry))) }
+        ensures refused { IfOk result (λ added. added ≡ false → input_in self.new ≡ input_in self.old) }
+        ensures tables { OnOk result (AreTables (tables_in self.new.catalog)) }
+    {
         let name = self.catalog.name(solvable.name)?;
         self.catalog.packages.add_version(name, solvable.version)
     }
@@ -183,7 +215,11 @@ impl Request {
         solvable: SolvableText<'_>,
         union: &[Spec<'_>],
         condition: &[ConditionStep<'_>],
-    ) -> Result<bool, Exhausted> {
+    ) -> Result<bool, Exhausted>
+        requires { AreTables (tables_in self.old.catalog) }
+        ensures { (need : Need) → AreNeed union.entry.now condition.entry.now need → IfOk result (λ added.
+            Adds added self.old self.new (requires_for (named_of solvable.entry) need)) }
+    {
         let Some(solvable) = self.find(solvable) else {
             return Ok(false);
         };
@@ -203,7 +239,7 @@ impl Request {
     ) -> Result<bool, Exhausted>
         requires { AreTables (tables_in self.old.catalog) }
         ensures { IfOk result (λ added. Adds added self.old self.new
-            (constrains_for (record { name = solvable.entry.name.now; version = solvable.entry.version }) (wanted_of spec.entry))) }
+            (constrains_for (named_of solvable.entry) (wanted_of spec.entry))) }
     {
         let Some(solvable) = self.find(solvable) else {
             return Ok(false);
@@ -213,7 +249,10 @@ impl Request {
         Ok(true)
     }
 
-    fn set_unknown(&mut self, solvable: SolvableText<'_>, reason: &str) -> Result<bool, Exhausted> {
+    fn set_unknown(&mut self, solvable: SolvableText<'_>, reason: &str) -> Result<bool, Exhausted>
+        requires { AreTables (tables_in self.old.catalog) }
+        ensures { IfOk result (λ added. Adds added self.old self.new (unknown_for (named_of solvable.entry) reason.entry.now)) }
+    {
         let Some(solvable) = self.find(solvable) else {
             return Ok(false);
         };
@@ -223,7 +262,7 @@ impl Request {
 
     fn favor(&mut self, solvable: SolvableText<'_>) -> bool
         requires { AreTables (tables_in self.old.catalog) }
-        ensures { Adds result self.old self.new (favors (record { name = solvable.entry.name.now; version = solvable.entry.version })) }
+        ensures { Adds result self.old self.new (favors (named_of solvable.entry)) }
     {
         match self.find(solvable) {
             None => false,
@@ -233,7 +272,7 @@ impl Request {
 
     fn lock(&mut self, solvable: SolvableText<'_>) -> bool
         requires { AreTables (tables_in self.old.catalog) }
-        ensures { Adds result self.old self.new (locks (record { name = solvable.entry.name.now; version = solvable.entry.version })) }
+        ensures { Adds result self.old self.new (locks (named_of solvable.entry)) }
     {
         match self.find(solvable) {
             None => false,
@@ -241,7 +280,10 @@ impl Request {
         }
     }
 
-    fn exclude(&mut self, solvable: SolvableText<'_>, reason: &str) -> Result<bool, Exhausted> {
+    fn exclude(&mut self, solvable: SolvableText<'_>, reason: &str) -> Result<bool, Exhausted>
+        requires { AreTables (tables_in self.old.catalog) }
+        ensures { IfOk result (λ added. Adds added self.old self.new (excludes (named_of solvable.entry) reason.entry.now)) }
+    {
         let Some(solvable) = self.find(solvable) else {
             return Ok(false);
         };
@@ -253,7 +295,9 @@ impl Request {
         &mut self,
         union: &[Spec<'_>],
         condition: &[ConditionStep<'_>],
-    ) -> Result<bool, Exhausted> {
+    ) -> Result<bool, Exhausted>
+        ensures { (need : Need) → AreNeed union.entry.now condition.entry.now need → IfOk result (λ added. Adds added self.old self.new (requires_any need)) }
+    {
         let Some(requirement) = self.requirement(union, condition)? else {
             return Ok(false);
         };
@@ -272,13 +316,7 @@ impl Request {
     /// Adds a soft requirement of a solvable. Returns `false` if it was not declared.
     fn add_soft_requirement(&mut self, solvable: SolvableText<'_>) -> Result<bool, Exhausted>
         requires { AreTables (tables_in self.old.catalog) }
-        ensures adds { IfOk result (λ added. Adds added self.old self.new (soft_one (record { name = solvable.entry.name.now; version = solvable.entry.version }))) }
-        ensures only { self.new ≡ record self.old { soft_requirements = self.new.soft_requirements } }
-        ensures added { IfOk result (λ declared.
-            MatchBool declared ((s : SolvableId) × IsFound self.old.catalog solvable.entry.name.now solvable.entry.version s ×
-            (self.new.soft_requirements.items ≡ self.old.soft_requirements.items ++ SoftSolvable s ∷ []))
-            ((self.new.soft_requirements.items ≡ self.old.soft_requirements.items) ×
-            IsUnfound self.old.catalog solvable.entry.name.now solvable.entry.version)) }
+        ensures { IfOk result (λ added. Adds added self.old self.new (soft_one (named_of solvable.entry))) }
     {
         let Some(found) = self.catalog.find_solvable(solvable.name, solvable.version) else {
             return Ok(false);
@@ -361,7 +399,14 @@ impl Request {
         Ok(Requirement::Union(self.catalog.union(members)?))
     }
 
-    fn condition(&mut self, steps: &[ConditionStep<'_>]) -> Result<Option<ConditionId>, Exhausted> {
+    /// Returns the condition of steps in postfix order, and `None` if they are no condition.
+    fn condition(&mut self, steps: &[ConditionStep<'_>]) -> Result<Option<ConditionId>, Exhausted>
+        ensures only { self.new ≡ record self.old { catalog = self.new.catalog } }
+        ensures exact { (g : Guard) → map step_seen steps.entry.now ≡ postfix g →
+            OnOk result (tables_in self.new.catalog ≡ with_guard (tables_in self.old.catalog) g) }
+        ensures id { (g : Guard) → map step_seen steps.entry.now ≡ postfix g →
+            IfOk result (λ made. made ≡ Some (last_condition (with_guard (tables_in self.old.catalog) g))) }
+    {
         let mut aside = Vec::new(self.alloc);
         for step in steps {
             let Some(condition) = self.condition_step(&mut aside, *step)? else {
@@ -372,30 +417,47 @@ impl Request {
         Ok(aside.pop())
     }
 
+    /// Makes the condition of one step, from those that are set aside. Returns `None` if one of its parts is missing.
     fn condition_step(
         &mut self,
         aside: &mut Vec<ConditionId>,
         step: ConditionStep<'_>,
-    ) -> Result<Option<ConditionId>, Exhausted> {
-        let operator = match step {
+    ) -> Result<Option<ConditionId>, Exhausted>
+        ensures only { self.new ≡ record self.old { catalog = self.new.catalog } }
+        ensures evaluates { (after : Evaluated) → Evaluates (step_seen step.entry) (evaluated (tables_in self.old.catalog) aside.old.items) after →
+            IfOk result (λ made. Makes made (tables_in self.new.catalog) aside.new.items after) }
+    {
+        match step {
             ConditionStep::Version(spec) => {
                 let version_set = self.version_set(spec)?;
-                return Ok(Some(self.catalog.conditions.add_on(version_set)?));
+                Ok(Some(self.catalog.conditions.add_on(version_set)?))
             }
-            ConditionStep::And => LogicalOperator::And,
-            ConditionStep::Or => LogicalOperator::Or,
-        };
+            ConditionStep::And => self.join(aside, LogicalOperator::And),
+            ConditionStep::Or => self.join(aside, LogicalOperator::Or),
+        }
+    }
+
+    /// Joins the two topmost of the conditions that are set aside. Returns `None` if there are no two.
+    fn join(
+        &mut self,
+        aside: &mut Vec<ConditionId>,
+        operator: LogicalOperator,
+    ) -> Result<Option<ConditionId>, Exhausted>
+        ensures only { self.new ≡ record self.old { catalog = self.new.catalog } }
+        ensures joins { (after : Evaluated) → Joins operator (evaluated (tables_in self.old.catalog) aside.old.items) after →
+            IfOk result (λ made. Makes made (tables_in self.new.catalog) aside.new.items after) }
+    {
         let Some(right) = aside.pop() else {
             return Ok(None);
         };
         let Some(left) = aside.pop() else {
             return Ok(None);
         };
-        self.catalog.conditions.add_of(operator, left, right)
+        let joined = self.catalog.conditions.add_of(operator, left, right)?;
+        Ok(joined)
     }
 }
 
 mod known;
-
 #[cfg(test)]
 mod tests;

@@ -13,7 +13,6 @@ ghost use Rattle.resolve.specs.Meaning.{Input};
 ghost use Rattle.resolve.specs.Outcomes.{IsExplained, IsFaultTo, IsOutcomeIn, IsOutcomeTo, IsReadTo, IsSolved, IsToldTo};
 ghost use Rattle.resolve.specs.Runs.{AppendsFront, IsRun, bad_text, told};
 
-
 use crate::answer::answer_text;
 use crate::catalog::Catalog;
 use crate::ids::{NameId, SolvableId};

@@ -1,17 +1,19 @@
 //! Statements, one on each line.
 
-ghost use Rattle.std.specs.Prelude.{◌≡◌, ◌==◌, ◌<◌, ◌↔◌, All, None, IfOk, IfErr, IfSome, OnOk, length, not};
+ghost use Rattle.std.specs.Prelude.{◌≡◌, ◌≢◌, ◌==◌, ◌<◌, ◌↔◌, None, IfOk, IfErr, IfSome, length, not};
 ghost use Rattle.std.specs.List.{find};
 ghost use Rattle.resolver_clause_store.specs.declared.data.Exhausted.TheVariants.{Memory};
 ghost use Rattle.resolve.specs.declared.statement.LineError.TheVariants.{Exhausted as RanOut};
-ghost use Rattle.resolve.specs.Statements.{IsAnyCondition, IsRefusal, IsRequirement, IsWellFormed, StatesNothing};
+ghost use Rattle.resolve.specs.Statements.{StatesNothing};
 ghost use Rattle.std.specs.Prelude.{[], ℕ, List, ◌∷◌, IsTrue, MatchOption, codes, map};
-ghost use Rattle.resolve.specs.Words.{IsName, IsSpec};
 ghost use Rattle.resolve.specs.Said.{Named, Wanted};
-ghost use Rattle.resolve.specs.Spelling.{Names, Wants};
+ghost use Rattle.std.specs.Str.{IsUtf8};
+ghost use Rattle.resolve.specs.LineWords.{after_word, from_word};
+ghost use Rattle.resolve.specs.Spelling.{Names, Wants, without_end};
 ghost use Rattle.resolve.specs.Unions.{ReadsUnion, RefusesUnion, wanted_of};
-ghost use Rattle.resolve.specs.WordsView.{words_left};
-ghost use Rattle.resolve.specs.StatementsSaid.{Reads, Refuses};
+ghost use Rattle.resolve.specs.WordsView.{line_left, words_left};
+ghost use Rattle.resolve.specs.StatementsSaid.{IsReasoned, Reads, ReadsAs, ReadsIf, ReadsNeed, Refuses, RefusesIf, RefusesNeed};
+ghost use Rattle.resolve.specs.StatementsSaid.{StatesAs, UnionEnds, named_of, spelled};
 
 use crate::condition::{ConditionStep, parse_condition};
 use crate::words::{SolvableText, Spec, Words, parse_solvable, parse_spec, without_spaces};
@@ -103,23 +105,13 @@ impl<T: Drop> From<AllocFailed<T>> for LineError {
 /// A line states nothing if it has only spaces, or if its first byte other than a space is `#`.
 pub fn parse_line<'a>(alloc: Global, line: &'a [u8]) -> Result<Option<Statement<'a>>, LineError>
     ensures skipped { (result ≡ Ok None) ↔ StatesNothing line.now }
-    ensures statement { IfOk result (λ statement. IfSome statement IsWellFormed) }
-    ensures refused { IfErr result IsRefusal }
     ensures says { IfOk result (λ statement. IfSome statement (Reads line.now)) }
     ensures bad { IfErr result (Refuses line.now) }
 {
     match first_byte(line) {
         None | Some(b'#') => Ok(None),
-        Some(_) => Ok(Some(parse_text(alloc, line)?)),
+        Some(_) => Ok(Some(parse_statement(alloc, Words::new(line))?)),
     }
-}
-
-/// Parses a line that states something. A reason that is not UTF-8 is bad.
-fn parse_text<'a>(alloc: Global, line: &'a [u8]) -> Result<Statement<'a>, LineError>
-    ensures statement { IfOk result IsWellFormed }
-    ensures refused { IfErr result IsRefusal }
-{
-    parse_statement(alloc, Words::new(line))
 }
 
 /// Returns the first byte other than a space.
@@ -129,136 +121,214 @@ fn first_byte(line: &[u8]) -> Option<u8>
     line.iter().copied().find(|byte| *byte != b' ')
 }
 
-/// Whether a statement has the list of a requirement, and whether a solvable has this requirement.
-enum StatementList {
-    None,
-    Requirement,
-    RequirementOfSolvable,
+/// The first word of a statement.
+#[derive(Clone, Copy)]
+enum Keyword {
+    Package,
+    Requires,
+    Constrains,
+    Unknown,
+    Favor,
+    Lock,
+    Exclude,
+    Require,
+    Constrain,
+    Soft,
 }
 
-fn parse_statement<'a>(alloc: Global, mut words: Words<'a>) -> Result<Statement<'a>, LineError>
-    ensures statement { IfOk result IsWellFormed }
-    ensures refused { IfErr result IsRefusal }
+fn keyword_of(word: &[u8]) -> Option<Keyword>
+    ensures { MatchOption result ((keyword : Keyword) → word.now ≢ spelled keyword) (λ keyword. word.now ≡ spelled keyword) }
 {
-    let keyword = words.take_word().ok_or(LineError::Bad)?;
-    match list_of(keyword) {
-        StatementList::Requirement => parse_require(alloc, words),
-        StatementList::RequirementOfSolvable => parse_requires(alloc, words),
-        StatementList::None => parse_listless(keyword, words),
-    }
-}
-
-/// Returns the list that a statement with this keyword has.
-fn list_of(keyword: &[u8]) -> StatementList {
-    match keyword {
-        b"require" => StatementList::Requirement,
-        b"requires" => StatementList::RequirementOfSolvable,
-        _ => StatementList::None,
-    }
-}
-
-/// Parses a statement without a list.
-fn parse_listless<'a>(keyword: &[u8], words: Words<'a>) -> Result<Statement<'a>, LineError>
-    ensures statement { IfOk result IsWellFormed }
-    ensures refused { IfErr result IsRefusal }
-{
-    match parse_short_statement(keyword, words) {
-        Some(statement) => Ok(statement),
-        None => Err(LineError::Bad),
-    }
-}
-
-fn parse_require<'a>(alloc: Global, words: Words<'a>) -> Result<Statement<'a>, LineError>
-    ensures statement { IfOk result IsWellFormed }
-    ensures refused { IfErr result IsRefusal }
-{
-    let (union, condition) = parse_requirement(alloc, words)?;
-    Ok(Statement::Require { union, condition })
-}
-
-fn parse_requires<'a>(alloc: Global, mut words: Words<'a>) -> Result<Statement<'a>, LineError>
-    ensures statement { IfOk result IsWellFormed }
-    ensures refused { IfErr result IsRefusal }
-{
-    let solvable = next_solvable(&mut words).ok_or(LineError::Bad)?;
-    let (union, condition) = parse_requirement(alloc, words)?;
-    Ok(Statement::Requires {
-        solvable,
-        union,
-        condition,
-    })
-}
-
-/// Parses the words after the keyword of a statement without a list.
-fn parse_short_statement<'a>(keyword: &[u8], words: Words<'a>) -> Option<Statement<'a>>
-    ensures { IfSome result IsWellFormed }
-{
-    match keyword {
-        b"constrain" => Some(Statement::Constrain(last_spec(words)?)),
-        b"constrains" => parse_constrains(words),
-        b"unknown" => {
-            let (solvable, reason) = parse_reasoned(words)?;
-            Some(Statement::Unknown { solvable, reason })
-        }
-        b"exclude" => {
-            let (solvable, reason) = parse_reasoned(words)?;
-            Some(Statement::Exclude { solvable, reason })
-        }
-        b"soft" => parse_soft(words),
-        _ => parse_solvable_statement(keyword, last_solvable(words)?),
-    }
-}
-
-/// Parses the last word as a solvable, or else as a spec.
-fn parse_soft(mut words: Words<'_>) -> Option<Statement<'_>>
-    ensures { IfSome result IsWellFormed }
-{
-    let word = words.take_word()?;
-    let statement = match parse_solvable(word) {
-        Some(solvable) => Statement::Soft(solvable),
-        None => Statement::SoftMatching(parse_spec(word)?),
-    };
-    match words.take_word() {
-        Some(_) => None,
-        None => Some(statement),
-    }
-}
-
-/// Returns the statement with this keyword, if it is about a solvable and nothing else.
-fn parse_solvable_statement<'a>(keyword: &[u8], solvable: SolvableText<'a>) -> Option<Statement<'a>>
-    requires { IsName solvable.name.now }
-    ensures { IfSome result IsWellFormed }
-{
-    match keyword {
-        b"package" => Some(Statement::Package(solvable)),
-        b"favor" => Some(Statement::Favor(solvable)),
-        b"lock" => Some(Statement::Lock(solvable)),
+    match word {
+        b"package" => Some(Keyword::Package),
+        b"requires" => Some(Keyword::Requires),
+        b"constrains" => Some(Keyword::Constrains),
+        b"unknown" => Some(Keyword::Unknown),
+        b"favor" => Some(Keyword::Favor),
+        b"lock" => Some(Keyword::Lock),
+        b"exclude" => Some(Keyword::Exclude),
+        b"require" => Some(Keyword::Require),
+        b"constrain" => Some(Keyword::Constrain),
+        b"soft" => Some(Keyword::Soft),
         _ => None,
     }
 }
 
-fn parse_constrains<'a>(mut words: Words<'a>) -> Option<Statement<'a>>
-    ensures { IfSome result IsWellFormed }
+/// Parses a line that states something. A reason that is not UTF-8 is bad.
+fn parse_statement<'a>(alloc: Global, mut words: Words<'a>) -> Result<Statement<'a>, LineError>
+    ensures says { IfOk result (Reads (line_left words.entry)) }
+    ensures bad { IfErr result (Refuses (line_left words.entry)) }
 {
-    let solvable = next_solvable(&mut words)?;
-    let spec = last_spec(words)?;
+    let Some(word) = words.take_word() else {
+        return Err(LineError::Bad);
+    };
+    let Some(keyword) = keyword_of(word) else {
+        return Err(LineError::Bad);
+    };
+    parse_parts(alloc, keyword, words)
+}
+
+/// Parses the words after the keyword of a statement.
+fn parse_parts<'a>(
+    alloc: Global,
+    keyword: Keyword,
+    words: Words<'a>,
+) -> Result<Statement<'a>, LineError>
+    ensures { ReadsAs (spelled keyword) (line_left words.entry) result }
+{
+    match keyword {
+        Keyword::Require => parse_require(alloc, words),
+        Keyword::Requires => parse_requires(alloc, words),
+        Keyword::Package => parse_package(words).ok_or(LineError::Bad),
+        Keyword::Constrains => parse_constrains(words).ok_or(LineError::Bad),
+        Keyword::Unknown => parse_unknown(words).ok_or(LineError::Bad),
+        Keyword::Favor => parse_favor(words).ok_or(LineError::Bad),
+        Keyword::Lock => parse_lock(words).ok_or(LineError::Bad),
+        Keyword::Exclude => parse_exclude(words).ok_or(LineError::Bad),
+        Keyword::Constrain => parse_constrain(words).ok_or(LineError::Bad),
+        Keyword::Soft => parse_soft(words).ok_or(LineError::Bad),
+    }
+}
+
+fn parse_require<'a>(alloc: Global, words: Words<'a>) -> Result<Statement<'a>, LineError>
+    ensures { ReadsAs (codes "require") (line_left words.entry) result }
+{
+    match parse_requirement(alloc, words) {
+        Ok((union, condition)) => Ok(Statement::Require { union, condition }),
+        Err(e) => Err(e),
+    }
+}
+
+fn parse_requires<'a>(alloc: Global, mut words: Words<'a>) -> Result<Statement<'a>, LineError>
+    ensures { ReadsAs (codes "requires") (line_left words.entry) result }
+{
+    let Some(solvable) = next_solvable(&mut words) else {
+        return Err(LineError::Bad);
+    };
+    match parse_requirement(alloc, words) {
+        Ok((union, condition)) => Ok(Statement::Requires {
+            solvable,
+            union,
+            condition,
+        }),
+        Err(e) => Err(e),
+    }
+}
+
+fn parse_package(words: Words<'_>) -> Option<Statement<'_>>
+    ensures { StatesAs (codes "package") (line_left words.entry) result }
+{
+    let Some(solvable) = last_solvable(words) else {
+        return None;
+    };
+    Some(Statement::Package(solvable))
+}
+
+fn parse_favor(words: Words<'_>) -> Option<Statement<'_>>
+    ensures { StatesAs (codes "favor") (line_left words.entry) result }
+{
+    let Some(solvable) = last_solvable(words) else {
+        return None;
+    };
+    Some(Statement::Favor(solvable))
+}
+
+fn parse_lock(words: Words<'_>) -> Option<Statement<'_>>
+    ensures { StatesAs (codes "lock") (line_left words.entry) result }
+{
+    let Some(solvable) = last_solvable(words) else {
+        return None;
+    };
+    Some(Statement::Lock(solvable))
+}
+
+fn parse_constrain(words: Words<'_>) -> Option<Statement<'_>>
+    ensures { StatesAs (codes "constrain") (line_left words.entry) result }
+{
+    let Some(spec) = last_spec(words) else {
+        return None;
+    };
+    Some(Statement::Constrain(spec))
+}
+
+fn parse_constrains(mut words: Words<'_>) -> Option<Statement<'_>>
+    ensures { StatesAs (codes "constrains") (line_left words.entry) result }
+{
+    let Some(solvable) = next_solvable(&mut words) else {
+        return None;
+    };
+    let Some(spec) = last_spec(words) else {
+        return None;
+    };
     Some(Statement::Constrains { solvable, spec })
 }
 
-/// Parses a solvable, and the rest of the line as a reason.
-fn parse_reasoned<'a>(mut words: Words<'a>) -> Option<(SolvableText<'a>, &'a str)>
-    ensures { IfSome result (λ parts. IsName parts.0.name.now) }
+/// Parses the last word as a solvable, or else as a spec.
+fn parse_soft(words: Words<'_>) -> Option<Statement<'_>>
+    ensures { StatesAs (codes "soft") (line_left words.entry) result }
 {
-    let solvable = next_solvable(&mut words)?;
-    let reason = parse_reason(words.rest())?;
+    let Some(word) = last_word(words) else {
+        return None;
+    };
+    if let Some(solvable) = parse_solvable(word) {
+        return Some(Statement::Soft(solvable));
+    }
+    let Some(spec) = parse_spec(word) else {
+        return None;
+    };
+    Some(Statement::SoftMatching(spec))
+}
+
+/// Returns the next word, if it is the last word.
+fn last_word(mut words: Words<'_>) -> Option<&[u8]>
+    ensures { MatchOption result ((word : List ℕ) → words_left words.entry ≢ word ∷ []) (λ word. words_left words.entry ≡ word.now ∷ []) }
+{
+    let Some(word) = words.take_word() else {
+        return None;
+    };
+    match words.take_word() {
+        Some(_) => None,
+        None => Some(word),
+    }
+}
+
+fn parse_unknown(words: Words<'_>) -> Option<Statement<'_>>
+    ensures { StatesAs (codes "unknown") (line_left words.entry) result }
+{
+    let Some((solvable, reason)) = parse_reasoned(words) else {
+        return None;
+    };
+    Some(Statement::Unknown { solvable, reason })
+}
+
+fn parse_exclude(words: Words<'_>) -> Option<Statement<'_>>
+    ensures { StatesAs (codes "exclude") (line_left words.entry) result }
+{
+    let Some((solvable, reason)) = parse_reasoned(words) else {
+        return None;
+    };
+    Some(Statement::Exclude { solvable, reason })
+}
+
+/// Parses a solvable, and the rest of the line as a reason.
+fn parse_reasoned(mut words: Words<'_>) -> Option<(SolvableText<'_>, &str)>
+    ensures { MatchOption result ((it : Named) (reason : List ℕ) → IsReasoned (line_left words.entry) it reason → ⊥)
+        (λ parts. IsReasoned (line_left words.entry) (named_of parts.0) parts.1.now) }
+{
+    let Some(solvable) = next_solvable(&mut words) else {
+        return None;
+    };
+    let Some(reason) = parse_reason(words.rest()) else {
+        return None;
+    };
     Some((solvable, reason))
 }
 
 fn next_solvable<'a>(words: &mut Words<'a>) -> Option<SolvableText<'a>>
-    ensures name { IfSome result (λ solvable. IsName solvable.name.now) }
     ensures exact { MatchOption result ((word : List ℕ) (more : List (List ℕ)) (it : Named) → words_left words.old ≡ word ∷ more → Names word it → ⊥)
         (λ solvable. (word : List ℕ) × (words_left words.old ≡ word ∷ words_left words.new) ×
         Names word (record { name = solvable.name.now; version = solvable.version })) }
+    ensures rest { IfSome result (λ _. line_left words.new ≡ after_word (line_left words.old)) }
 {
     let Some(word) = words.take_word() else {
         return None;
@@ -268,8 +338,7 @@ fn next_solvable<'a>(words: &mut Words<'a>) -> Option<SolvableText<'a>>
 
 /// Parses the next word as a solvable, if it is the last word.
 fn last_solvable(mut words: Words<'_>) -> Option<SolvableText<'_>>
-    ensures name { IfSome result (λ solvable. IsName solvable.name.now) }
-    ensures exact { MatchOption result ((word : List ℕ) (it : Named) → words_left words.entry ≡ word ∷ [] → Names word it → ⊥)
+    ensures { MatchOption result ((word : List ℕ) (it : Named) → words_left words.entry ≡ word ∷ [] → Names word it → ⊥)
         (λ solvable. (word : List ℕ) × (words_left words.entry ≡ word ∷ []) × Names word (record { name = solvable.name.now; version = solvable.version })) }
 {
     let Some(solvable) = next_solvable(&mut words) else {
@@ -283,14 +352,23 @@ fn last_solvable(mut words: Words<'_>) -> Option<SolvableText<'_>>
 
 /// Parses the next word as a spec, if it is the last word.
 fn last_spec(mut words: Words<'_>) -> Option<Spec<'_>>
-    ensures { IfSome result IsSpec }
+    ensures { MatchOption result ((word : List ℕ) (it : Wanted) → words_left words.entry ≡ word ∷ [] → Wants word it → ⊥)
+        (λ spec. (word : List ℕ) × (words_left words.entry ≡ word ∷ []) × Wants word (wanted_of spec)) }
 {
-    let spec = parse_spec(words.take_word()?)?;
-    words.take_word().is_none().then_some(spec)
+    let Ok(spec) = next_spec(&mut words) else {
+        return None;
+    };
+    match words.take_word() {
+        Some(_) => None,
+        None => Some(spec),
+    }
 }
 
 /// Parses a reason: a text without the spaces around it, which is not empty.
-fn parse_reason(text: &[u8]) -> Option<&str> {
+fn parse_reason(text: &[u8]) -> Option<&str>
+    ensures { MatchOption result (0 < length (without_end (from_word text.now)) → IsUtf8 (without_end (from_word text.now)) → ⊥)
+        (λ reason. (reason.now ≡ without_end (from_word text.now)) × (0 < length reason.now) × IsUtf8 reason.now) }
+{
     let reason = without_spaces_around(text);
     if reason.is_empty() {
         return None;
@@ -302,7 +380,9 @@ fn parse_reason(text: &[u8]) -> Option<&str> {
 }
 
 /// Returns a text without the spaces before and behind it.
-fn without_spaces_around(text: &[u8]) -> &[u8] {
+fn without_spaces_around(text: &[u8]) -> &[u8]
+    ensures { result.now ≡ without_end (from_word text.now) }
+{
     let from = without_spaces(text);
     let mut length = from.len();
     while length > 0 && from[length - 1] == b' ' {
@@ -316,8 +396,8 @@ fn parse_requirement<'a>(
     alloc: Global,
     mut words: Words<'a>,
 ) -> Result<(Vec<Spec<'a>>, Vec<ConditionStep<'a>>), LineError>
-    ensures requirement { IfOk result (λ parts. IsRequirement parts.0.items parts.1.items) }
-    ensures refused { IfErr result IsRefusal }
+    ensures read { IfOk result (λ parts. ReadsNeed (words_left words.entry) parts.0.items parts.1.items) }
+    ensures bad { IfErr result (RefusesNeed (words_left words.entry)) }
 {
     let mut union = Vec::new(alloc);
     let condition = match parse_union(&mut words, &mut union) {
@@ -339,11 +419,9 @@ fn parse_union<'a>(
     union: &mut Vec<Spec<'a>>,
 ) -> Result<Option<&'a [u8]>, LineError>
     requires { union.old.items ≡ [] }
-    ensures specs { OnOk result (All IsSpec union.new.items) }
-    ensures nonempty { OnOk result (0 < length union.new.items) }
-    ensures refused { IfErr result IsRefusal }
     ensures read { IfOk result (λ word. ReadsUnion (words_left words.old) (words_left words.new) word (map wanted_of union.new.items)) }
     ensures bad { IfErr result (RefusesUnion (words_left words.old)) }
+    ensures ends { IfOk result (λ word. UnionEnds word (words_left words.new)) }
 {
     loop {
         let spec = match next_spec(words) {
@@ -372,7 +450,7 @@ fn is_bar(word: &[u8]) -> bool
 
 /// Parses the next word as a spec.
 fn next_spec<'a>(words: &mut Words<'a>) -> Result<Spec<'a>, LineError>
-    ensures read { IfOk result (λ spec. IsSpec spec × ((word : List ℕ) × (words_left words.old ≡ word ∷ words_left words.new) × Wants word (wanted_of spec))) }
+    ensures read { IfOk result (λ spec. (word : List ℕ) × (words_left words.old ≡ word ∷ words_left words.new) × Wants word (wanted_of spec)) }
     ensures bad { IfErr result (λ e. (e ≡ LineError.Bad) × ((word : List ℕ) (more : List (List ℕ)) (it : Wanted) → words_left words.old ≡ word ∷ more →
         Wants word it → ⊥)) }
 {
@@ -391,12 +469,24 @@ fn parse_if<'a>(
     word: Option<&[u8]>,
     words: Words<'a>,
 ) -> Result<Vec<ConditionStep<'a>>, LineError>
-    ensures condition { IfOk result (λ steps. IsAnyCondition steps.items) }
-    ensures refused { IfErr result IsRefusal }
+    ensures read { IfOk result (λ steps. ReadsIf word.entry (words_left words.entry) steps.items) }
+    ensures bad { IfErr result (RefusesIf word.entry (words_left words.entry)) }
+{
+    let Some(word) = word else {
+        return Ok(Vec::new(alloc));
+    };
+    if !is_if(word) {
+        return Err(LineError::Bad);
+    }
+    parse_condition(alloc, words)
+}
+
+/// Returns whether a word is `if`.
+fn is_if(word: &[u8]) -> bool
+    ensures { IsTrue result ↔ (word.now ≡ codes "if") }
 {
     match word {
-        Some(b"if") => parse_condition(alloc, words),
-        Some(_) => Err(LineError::Bad),
-        None => Ok(Vec::new(alloc)),
+        [b'i', b'f'] => true,
+        _ => false,
     }
 }

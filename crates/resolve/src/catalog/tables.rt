@@ -1,11 +1,12 @@
 //! Tables of packages with their versions, and of conditions.
 
-ghost use Rattle.std.specs.Prelude.{◌≡◌, ◌<◌, ◌≤◌, ◌++◌, ◌∷◌, [], length, IfOk, IfErr, IfNone, IfSome, MatchBool, MatchOption, OnOk};
+ghost use Rattle.std.specs.Prelude.{◌≡◌, ◌<◌, ◌≤◌, ◌++◌, ◌∷◌, [], length, IfOk, IfErr, IfNone, IfSome, MatchBool, MatchOption, OnErr, OnOk};
 ghost use Rattle.std.proofs.Props.{props};
 ghost use Rattle.resolve.specs.Additions.{IsShortage};
+ghost use Rattle.resolve.specs.Listings.{no_versions};
 ghost use Rattle.resolve.specs.Packages.{ArePackagesOf, IsConstrained, IsDeclarationRefused, IsDeclared, IsExcluded, IsExclusionRefused, IsFavorRefused};
-ghost use Rattle.resolve.specs.Packages.{IsFavored, IsLockRefused, IsLocked, IsMadeUnknown, IsPackageAdded, IsReasonRefused, IsRequired, IsVersionOf};
-ghost use Rattle.resolve.specs.Packages.{IsWithoutPackage, KeepsPackages, name_at, version_at, preference};
+ghost use Rattle.resolve.specs.Packages.{IsFavored, IsLockRefused, IsLocked, IsMadeUnknown, IsReasonRefused, IsRequired, IsVersionOf};
+ghost use Rattle.resolve.specs.Packages.{IsWithoutPackage, name_at, version_at, preference};
 ghost use Rattle.resolve.specs.Sorting.{sorted_by};
 ghost use Rattle.resolve.specs.Conditions.{ArePartsLower, IsJoined, IsPartMissing, condition_at};
 
@@ -27,6 +28,7 @@ pub struct PackageTable {
     pub versions: IndexSet<Version>,
     pub solvables: Solvables,
     ghost lawful: { ArePackagesOf versions.keys packages } by { Prim.hlevel props },
+    ghost few: { length versions.keys ≤ 4294967295 } by { Prim.hlevel props },
 }
 
 impl PackageTable {
@@ -80,8 +82,8 @@ impl PackageTable {
 
     /// Adds a package without versions.
     pub fn add_package(&mut self) -> Result<(), Exhausted>
-        ensures added { OnOk result (IsPackageAdded self.old.packages self.new.packages) }
-        ensures packages { KeepsPackages self.old.packages self.new.packages }
+        ensures added { OnOk result (self.new.packages ≡ self.old.packages ++ no_versions ∷ []) }
+        ensures unchanged { OnErr result (self.new.packages ≡ self.old.packages) }
         ensures kept { (self.new.versions.keys ≡ self.old.versions.keys) × (self.new.solvables ≡ self.old.solvables) }
         ensures memory { IfErr result (λ e. e ≡ Exhausted.Memory) }
     {
@@ -95,10 +97,10 @@ impl PackageTable {
     /// An error may leave the version declared, and not listed.
     pub fn add_version(&mut self, name: NameId, number: u32) -> Result<bool, Exhausted>
         ensures declared { IfOk result (λ is_new.
-            MatchBool is_new (IsDeclared self.old.versions.keys self.new.versions.keys self.old.packages self.new.packages
-            (record { name = name; number = number }))
-            (IsDeclarationRefused self.old.versions.keys self.new.versions.keys self.old.packages self.new.packages
-            (record { name = name; number = number }))) }
+            MatchBool is_new (IsDeclared self.old.versions.keys self.new.versions.keys self.old.solvables self.new.solvables self.old.packages
+            self.new.packages (record { name = name; number = number }))
+            (IsDeclarationRefused self.old.versions.keys self.new.versions.keys self.old.solvables self.new.solvables self.old.packages
+            self.new.packages (record { name = name; number = number }))) }
         ensures refusal { IfErr result (IsShortage (length self.old.versions.keys)) }
     {
         let version = Version { name, number };

@@ -14,16 +14,24 @@ fn expect_bad(rt: &impl Abort, alloc: Global, line: &[u8]) -> Result<(), Fail> {
     let mut complaints = Vec::new(alloc);
     let ended = run(alloc, input.as_slice(), &mut written, &mut complaints);
     assert_eq!(rt; (ended, written.len()), (2, 0), "at {line:?}");
-    assert_eq!(rt; complaints.as_slice(), b"resolve: line 2: bad statement\n".as_slice(), "at {line:?}");
+    assert_eq!(rt;
+        complaints.as_slice(),
+        b"resolve: line 2: bad statement\n".as_slice(),
+        "at {line:?}"
+    );
     Ok(())
 }
 
 #[test]
 fn lines_without_a_statement(rt: HostRuntime) {
-    let input = b"\n \n     \n#\n# note\n   # package a=1\n#package\n#\t\xc3\xa9\n #\xff\xfe\npackage a=1\nrequire a\n";
+    let input =
+        b"\n \n     \n#\n# note\n   # package a=1\n#package\n#\t\xc3\xa9\n #\xff\xfe\npackage a=1\nrequire a\n";
     let mut written = Vec::new(rt.alloc());
     let mut complaints = Vec::new(rt.alloc());
-    assert_eq!(rt; run(rt.alloc(), input.as_slice(), &mut written, &mut complaints), 0);
+    assert_eq!(rt;
+        run(rt.alloc(), input.as_slice(), &mut written, &mut complaints),
+        0
+    );
     assert_eq!(rt; written.as_slice(), b"a=1\n".as_slice());
     assert!(rt; complaints.is_empty());
 }
@@ -32,17 +40,44 @@ fn lines_without_a_statement(rt: HostRuntime) {
 fn words_and_spaces(rt: HostRuntime) {
     for (input, output) in [
         ("   package    a=1   \n  require  a   ", "a=1\n"),
-        ("package a=1\npackage b=2\nrequire a | b@2   |  c@0..9 \n", "a=1\n"),
-        ("package Az0_9-.if=4294967295\nsoft Az0_9-.if=4294967295", "Az0_9-.if=4294967295\n"),
+        (
+            "package a=1\npackage b=2\nrequire a | b@2   |  c@0..9 \n",
+            "a=1\n",
+        ),
+        (
+            "package Az0_9-.if=4294967295\nsoft Az0_9-.if=4294967295",
+            "Az0_9-.if=4294967295\n",
+        ),
         ("package ..=0\nsoft ..=0", "..=0\n"),
         ("package IF=1\nconstrain IF\nrequire IF@1\n", "IF=1\n"),
-        ("package a=1\npackage a=4294967295\nsoft a\n", "a=4294967295\n"),
-        ("package a=1\npackage a=2\nconstrain a@1\nrequire a\n", "a=1\n"),
-        ("package a=1\npackage a=2\nconstrain a@0..2\nrequire a\n", "a=1\n"),
-        ("package a=4294967295\nconstrain a@4294967295\nrequire a@0..4294967296\n", "a=4294967295\n"),
-        ("package a=1\npackage b=2\npackage b=3\nconstrains a=1  b@2\nrequire a\nsoft b\n", "a=1\nb=2\n"),
-        ("package a=1\npackage b=1\nrequire a | a if b@5..3\nsoft b\n", "b=1\n"),
-        ("package a=1\npackage b=1\nrequire a if b@3..3 or b@4294967296..0\nsoft b\n", "b=1\n"),
+        (
+            "package a=1\npackage a=4294967295\nsoft a\n",
+            "a=4294967295\n",
+        ),
+        (
+            "package a=1\npackage a=2\nconstrain a@1\nrequire a\n",
+            "a=1\n",
+        ),
+        (
+            "package a=1\npackage a=2\nconstrain a@0..2\nrequire a\n",
+            "a=1\n",
+        ),
+        (
+            "package a=4294967295\nconstrain a@4294967295\nrequire a@0..4294967296\n",
+            "a=4294967295\n",
+        ),
+        (
+            "package a=1\npackage b=2\npackage b=3\nconstrains a=1  b@2\nrequire a\nsoft b\n",
+            "a=1\nb=2\n",
+        ),
+        (
+            "package a=1\npackage b=1\nrequire a | a if b@5..3\nsoft b\n",
+            "b=1\n",
+        ),
+        (
+            "package a=1\npackage b=1\nrequire a if b@3..3 or b@4294967296..0\nsoft b\n",
+            "b=1\n",
+        ),
     ] {
         expect_answer(&rt, rt.alloc(), input, output);
     }
@@ -61,7 +96,9 @@ fn reasons(rt: HostRuntime) -> Result<(), Fail> {
     ] {
         let alloc = rt.alloc();
         let input = format!(in alloc; "package a=1\n{line}\nrequire a\n")?;
-        let output = format!(in alloc; "The following packages are incompatible\n└─ a * cannot be installed because there are no viable options:\n   └─ a 1 is excluded because {reason}\n")?;
+        let output = format!(in alloc;
+            "The following packages are incompatible\n└─ a * cannot be installed because there are no viable options:\n   └─ a 1 is excluded because {reason}\n"
+        )?;
         expect_run(&rt, alloc, input.as_str(), output.as_str(), "", 1);
     }
     Ok(())
@@ -103,15 +140,25 @@ fn conditions(rt: HostRuntime) -> Result<(), Fail> {
 }
 
 /// Returns whether a condition makes a requirement of `a` hold, where these packages of one letter are required.
-fn holds_beside(rt: &impl Abort, alloc: Global, condition: &str, chosen: &str) -> Result<bool, Fail> {
-    let mut input = format!(in alloc; "package a=1\npackage b=1\npackage c=1\npackage d=1\npackage e=1\nrequire a if {condition}\n")?;
+fn holds_beside(
+    rt: &impl Abort,
+    alloc: Global,
+    condition: &str,
+    chosen: &str,
+) -> Result<bool, Fail> {
+    let mut input = format!(in alloc;
+        "package a=1\npackage b=1\npackage c=1\npackage d=1\npackage e=1\nrequire a if {condition}\n"
+    )?;
     for name in chosen.chars() {
         let line = format!(in alloc; "require {name}\n")?;
         input.push_str(line.as_str())?;
     }
     let mut written = Vec::new(alloc);
     let mut complaints = Vec::new(alloc);
-    assert_eq!(rt; run(alloc, input.as_bytes(), &mut written, &mut complaints), 0);
+    assert_eq!(rt;
+        run(alloc, input.as_bytes(), &mut written, &mut complaints),
+        0
+    );
     Ok(written.first() == Some(&b'a'))
 }
 
@@ -327,7 +374,13 @@ fn long_lines(rt: HostRuntime) -> Result<(), Fail> {
         let line = line_of(alloc, "require a if", (" (", open), " b", (" )", closed))?;
         assert_eq!(rt; status_of(alloc, line.as_str()), status);
     }
-    let nested = line_of(alloc, "require a if b", (" and ( b or b", 1_000), "", (" )", 1_000))?;
+    let nested = line_of(
+        alloc,
+        "require a if b",
+        (" and ( b or b", 1_000),
+        "",
+        (" )", 1_000),
+    )?;
     assert_eq!(rt; status_of(alloc, nested.as_str()), 0);
     let union = line_of(alloc, "require b", (" | b", 2_000), "", ("", 0))?;
     assert_eq!(rt; status_of(alloc, union.as_str()), 1);

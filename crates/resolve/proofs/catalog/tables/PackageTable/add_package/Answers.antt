@@ -1,7 +1,7 @@
 use Rattle.std.proofs.Common.{◌<◌, [], length, refl, true}
 use Rattle.resolve.specs.Listings.{no_versions}
 use Rattle.resolve.specs.Packages.{IsVersionOf}
-use Rattle.resolve.proofs.PackageLemmas.{ArePackagesOf-pushed, ArePackagesOf-tried, All-empty, AllPairs-empty, KeepsPackages-push}
+use Rattle.resolve.proofs.PackageLemmas.{ArePackagesOf-pushed, ArePackagesOf-tried, All-empty, AllPairs-empty}
 use Rattle.resolve.proofs.catalog.tables.PackageTable.add_package.Goals as goal
 
 pub invariant_of-self : goal.invariant_of-self
@@ -14,7 +14,5 @@ invariant_of-self c = record {
         locked = tt;
         excluded = All-empty (λ e. IsVersionOf c.args.self.now.versions.keys (length c.args.self.now.packages) e.0) [] refl;
       }));
+  few = c.args.self.now.few;
 }
-
-pub returns-clause-packages : goal.returns-clause-packages
-returns-clause-packages c = rw c.in_ok-add.ensures.added (KeepsPackages-push c.args.self.now.packages no_versions)

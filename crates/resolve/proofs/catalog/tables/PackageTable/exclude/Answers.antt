@@ -1,4 +1,4 @@
-use Rattle.std.proofs.Common.{ℕ, ◌<◌, ap, ◌∙◌, sym, refl, length, get_or, set, arith}
+use Rattle.std.proofs.Common.{ℕ, ◌<◌, ap, ◌∙◌, sym, length, get_or, set, arith}
 use Rattle.std.specs.Prelude.{slice_get}
 use Rattle.std.proofs.lemmas.Option.{slice_get-get_or}
 use Rattle.std.proofs.lemmas.List.Elements.{All-push}
@@ -20,6 +20,7 @@ invariant_of-self c =
             locked = h.locked;
             excluded = All-push (λ e. IsVersionOf c.args.self.now.versions.keys c.in-Some.package e.0) _ _ h.excluded c.in-Some.ensures.version;
           }));
+      few = c.args.self.now.few;
     }
 
 pub invariant_of-self-2 : goal.invariant_of-self-2
@@ -34,6 +35,7 @@ invariant_of-self-2 c =
             locked = h.locked;
             excluded = All-push (λ e. IsVersionOf c.args.self.now.versions.keys c.in-Some.package e.0) _ _ h.excluded c.in-Some.ensures.version;
           }));
+      few = c.args.self.now.few;
     }
 
 pub returns-clause-excluded : goal.returns-clause-excluded
@@ -45,14 +47,9 @@ returns-clause-excluded c =
       included = cc (c.if-is_excluded.false, c.is_excluded.ensures);
       marked = c.exclude-2.ensures;
       package_before = get_or c.args.self.now.packages c.in-Some.package no_versions;
-      package_after = with_excluded (get_or c.args.self.now.packages c.in-Some.package no_versions) (c.args.solvable, c.args.reason);
       package_stood = ap (λ (n : ℕ). slice_get c.args.self.now.packages n) c.in-Some.ensures.version.named ∙
           slice_get-get_or c.args.self.now.packages c.in-Some.package no_versions c.in-Some.ensures.within;
       written = c.in_ok-exclude.ensures.added ∙ ap (λ (n : ℕ). set c.args.self.now.packages n
           (with_excluded (get_or c.args.self.now.packages c.in-Some.package no_versions) (c.args.solvable, c.args.reason)))
           (sym c.in-Some.ensures.version.named);
-      excluded = refl;
-      candidates = refl;
-      favored = refl;
-      locked = refl;
     }

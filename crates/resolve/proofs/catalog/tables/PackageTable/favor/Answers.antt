@@ -12,6 +12,7 @@ invariant_of-self c =
     record {
       lawful = rw c.favor.ensures (ArePackagesOf-set _ _ _ _ c.args.self.now.lawful
           (record { listed = h.listed; rising = h.rising; favored = c.in-Some.ensures.version; locked = h.locked; excluded = h.excluded }));
+      few = c.args.self.now.few;
     }
 
 pub returns-clause-favored : goal.returns-clause-favored

@@ -12,6 +12,7 @@ invariant_of-self c =
     record {
       lawful = rw c.lock.ensures (ArePackagesOf-set _ _ _ _ c.args.self.now.lawful
           (record { listed = h.listed; rising = h.rising; favored = h.favored; locked = c.in-Some.ensures.version; excluded = h.excluded }));
+      few = c.args.self.now.few;
     }
 
 pub returns-clause-locked : goal.returns-clause-locked

@@ -1,0 +1,20 @@
+use Rattle.std.proofs.Common.{refl}
+use Rattle.std.specs.Prelude.{codes}
+use Rattle.resolve.specs.Said.{favors}
+use Rattle.resolve.specs.StatementsSaid.{named_of}
+use Rattle.resolve.specs.WordsView.{line_left}
+use Rattle.resolve.specs.declared.statement.Keyword.TheVariants.{Favor}
+use Rattle.resolve.proofs.StatementLemmas.{follows, unsaid}
+use Rattle.resolve.proofs.statement.parse_favor.Goals as goal
+
+pub returns-in_default : goal.returns-in_default
+returns-in_default c = unsaid Favor (line_left c.args.words) (λ h. c.in_default.ensures h.0 h.1 h.2 h.3)
+
+pub returns : goal.returns
+returns c = λ line b.
+    let read = c.in-Some.ensures in
+    record {
+      said = favors (named_of c.in-Some.solvable);
+      says = (read.0, follows line (codes "favor") (line_left c.args.words) _ b read.1, read.2);
+      is = refl;
+    }
