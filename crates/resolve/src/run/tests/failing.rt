@@ -4,6 +4,7 @@ use super::run;
 use std::alloc::Global;
 use std::io;
 use std::io::{Read, Write};
+use std::process::Abort;
 use std::test::Fail;
 
 /// A reader that gives an input byte by byte, and fails after this many reads.
@@ -92,28 +93,75 @@ fn each_read_may_fail(rt: HostRuntime) -> Result<(), Fail> {
     Ok(())
 }
 
-/// Returns the status of a run whose output takes this many bytes.
-fn status_with_writes(alloc: Global, input: &str, writes: u32) -> u8 {
+/// Returns the status and the errors of a run whose output takes this many bytes.
+fn run_with_writes(alloc: Global, input: &str, writes: u32) -> (u8, Vec<u8>) {
     let mut complaints: Vec<u8> = Vec::new(alloc);
     let mut output = FailingWriter { writes };
-    run(alloc, input.as_bytes(), &mut output, &mut complaints)
+    let status = run(alloc, input.as_bytes(), &mut output, &mut complaints);
+    (status, complaints)
 }
 
-/// Returns the number of writes that a run needs to end with another status than that of unwritable output, and that
-/// status.
-fn writes_needed(alloc: Global, input: &str) -> Option<(u32, u8)> {
-    for writes in 0..2000u32 {
-        let status = status_with_writes(alloc, input, writes);
-        if status != 3 {
-            return Some((writes, status));
-        }
+/// Asserts that each write of an output may fail, up to this many, which are needed to end with another status.
+fn expect_writes(rt: &impl Abort, alloc: Global, input: &str, needed: u32, status: u8) {
+    for writes in 0..needed {
+        let ended = run_with_writes(alloc, input, writes);
+        assert_eq!(rt; ended.0, 3, "{writes}");
+        assert_eq!(rt;
+            ended.1.as_slice(),
+            b"resolve: cannot write output\n".as_slice(),
+            "{writes}"
+        );
     }
-    None
+    let ended = run_with_writes(alloc, input, needed);
+    assert_eq!(rt; ended.0, status);
+    assert!(rt; ended.1.is_empty());
 }
 
 #[test]
-fn each_write_may_fail(rt: HostRuntime) -> Result<(), Fail> {
-    assert_eq!(rt; writes_needed(rt.alloc(), INPUT), Some((8, 0)));
-    assert_eq!(rt; writes_needed(rt.alloc(), CLASH), Some((137, 1)));
-    Ok(())
+fn each_write_may_fail(rt: HostRuntime) {
+    expect_writes(&rt, rt.alloc(), INPUT, 8, 0);
+    expect_writes(&rt, rt.alloc(), CLASH, 137, 1);
+}
+
+/// A writer that keeps the bytes that it takes, one by one, and fails after this many.
+#[derive(Drop)]
+struct KeepingWriter {
+    taken: Vec<u8>,
+    writes: u32,
+}
+
+impl Write for KeepingWriter {
+    fn write(&mut self, buf: &[u8]) -> io::Result<usize> {
+        if self.writes == 0 {
+            return Err(io::Error::from(io::ErrorKind::BrokenPipe));
+        }
+        let Some(byte) = buf.first() else {
+            return Ok(0);
+        };
+        if self.taken.push(*byte).is_err() {
+            return Err(io::Error::from(io::ErrorKind::OutOfMemory));
+        }
+        self.writes -= 1;
+        Ok(1)
+    }
+
+    fn flush(&mut self) -> io::Result<()> {
+        Ok(())
+    }
+}
+
+#[test]
+fn errors_are_written_up_to_the_first_failure(rt: HostRuntime) {
+    let text = b"resolve: line 12: bad statement\n".as_slice();
+    let input = b"#\n#\n#\n#\n#\n#\n#\n#\n#\n#\n#\nnonsense\n".as_slice();
+    for writes in 0..40u32 {
+        let mut written: Vec<u8> = Vec::new(rt.alloc());
+        let taken = Vec::new(rt.alloc());
+        let mut errors = KeepingWriter { taken, writes };
+        let status = run(rt.alloc(), input, &mut written, &mut errors);
+        let length = (writes as usize).min(text.len());
+        assert_eq!(rt; status, 2);
+        assert!(rt; written.is_empty());
+        assert_eq!(rt; errors.taken.as_slice(), &text[..length], "{writes}");
+    }
 }

@@ -84,6 +84,13 @@ fn words_and_spaces(rt: HostRuntime) {
 }
 
 #[test]
+fn the_last_line_may_lack_a_line_feed(rt: HostRuntime) {
+    let first = "resolve: line 1: bad statement\n";
+    expect_run(&rt, rt.alloc(), "require", "", first, 2);
+    expect_answer(&rt, rt.alloc(), "package a=1\nrequire a", "a=1\n");
+}
+
+#[test]
 fn reasons(rt: HostRuntime) -> Result<(), Fail> {
     for (line, reason) in [
         ("unknown a=1 no data", "no data"),
