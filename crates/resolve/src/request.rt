@@ -459,5 +459,6 @@ impl Request {
 }
 
 mod known;
+
 #[cfg(test)]
 mod tests;

@@ -1,4 +1,4 @@
-use Rattle.std.proofs.Common.{ap, sym, subst}
+use Rattle.std.proofs.Common.{sym, subst}
 use Rattle.resolve.specs.Catalogs.{Tables}
 use Rattle.resolve.specs.Tables.{AreTables}
 use Rattle.resolve.proofs.FitLemmas.{no_tables_fit}
