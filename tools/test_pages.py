@@ -48,7 +48,6 @@ NOT_RUN = {
     "tools/from-debian lists /var/lib/dpkg/status --keep": LISTS,
     "apt-get install -s --no-install-recommends": PART,
     "apt-get -s": PART,
-    "git apply": PART,
     "valgrind --tool=cachegrind": PART,
     "time crates/resolve/out/resolve < input": "the reader's input",
 }
