@@ -23,6 +23,11 @@ MINUTES = "compiles or proves, in minutes"
 LISTS = "needs the package lists of Debian 12"
 PART = "is a part of a command"
 NOT_RUN = {
+    "./check": MINUTES,
+    ".ci/run": MINUTES,
+    "./resolve": "waits for its input; without RESOLVE it proves and builds the program first",
+    "./refusals": "needs builds of the program and its tests",
+    "./sweep": "takes minutes and gigabytes",
     "cd crates/resolve && rt try < ../../examples/locks.txt": MINUTES,
     "cd crates/resolve && rt try --cases ../../examples": MINUTES,
     "for crate in resolver_clause_store resolver_report resolver_encoding resolvo; do (cd crates/$crate && rt lib); done": MINUTES,
@@ -53,7 +58,7 @@ NOT_RUN = {
 }
 
 # A line of a page that is a command though no prompt stands before it.
-COMMAND = re.compile(r"(?:\.{0,2}/|\.ci/|tools/)[a-z-]+ |(?:[A-Z]+=\S+|apt-cache|apt-get|cd|cp|export|for|git|mkdir|python3|rt|time|valgrind) ")
+COMMAND = re.compile(r"(?:\.\.?/|\.ci/)[a-z-]+(?: |$)|(?:tools/[a-z-]+|[A-Z]+=\S+|apt-cache|apt-get|cd|cp|export|for|git|mkdir|python3|rt|time|valgrind) ")
 # Words in capitals are for the reader to replace.
 FORM = re.compile(r"\b[A-Z]{3,}\b")
 HARMLESS = {"./resolve", "cat", "cd", "cp", "echo", "mkdir", "printf"}
