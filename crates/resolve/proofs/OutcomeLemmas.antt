@@ -1,6 +1,6 @@
 -- What the outcome of an input means for its bytes, and what a solver's answer means for an input.
-use Rattle.std.proofs.Common.{◌≡◌, ◌∙◌, ◌++◌, [], ap, subst, sym, ⊤}
-use Rattle.std.specs.Prelude.{ℕ, List, IfErr, IfOk, Option, None, Some, Result, Ok, Err, Vec, map}
+use Rattle.std.proofs.Common.{◌≡◌, ◌∙◌, ◌++◌, [], ap, subst, sym}
+use Rattle.std.specs.Prelude.{ℕ, List, IfErr, IfOk, Option, None, Some, Result, Ok, Err, Vec, map, ⊤}
 use Rattle.std.specs.declared.alloc.Global.{Global}
 use Rattle.resolver_clause_store.specs.Universe.{Demands, Universe}
 use Rattle.resolver_clause_store.specs.declared.SoftRequirement.{SoftRequirement}
@@ -33,7 +33,7 @@ outcome_told bytes input (Ok (Answer text)) said outcome fault = (input, said, o
 outcome_told bytes input (Ok (Conflict text)) said outcome fault = (input, said, outcome)
 outcome_told bytes input (Err e) said outcome fault = fault
 
-is_none : {X : Type 0} → Option X → Type 0
+abbrev is_none : {X : Type 0} → Option X → Type 0
 is_none None = ⊤
 is_none (Some x) = ⊥
 

@@ -329,9 +329,10 @@ fn refusal_of(
     ensures fault { (bytes : List ℕ) → IfErr result (IsFaultTo bytes) }
 {
     match why {
-        UnsolvableOrCancelled::Unsolvable(conflict) => {
-            Ok(Outcome::Conflict(conflict_text(solver, conflict)?))
-        }
+        UnsolvableOrCancelled::Unsolvable(conflict) => match conflict_text(solver, conflict) {
+            Ok(text) => Ok(Outcome::Conflict(text)),
+            Err(fault) => Err(fault),
+        },
         UnsolvableOrCancelled::Exhausted(e) => Err(Fault::Exhausted(*e)),
         UnsolvableOrCancelled::Cancelled(value) => match *value {},
     }
