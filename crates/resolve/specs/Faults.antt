@@ -1,5 +1,5 @@
 -- The status and the text of each fault.
-use Rattle.std.specs.Prelude.{◌≡◌, ◌⊎◌, ℕ, ◌++◌, List, Option, codes}
+use Rattle.std.specs.Prelude.{◌≡◌, ◌⊎◌, ℕ, List, Option, codes}
 use Rattle.resolver_clause_store.specs.declared.data.Exhausted.{Exhausted as Resource}
 use Rattle.resolver_clause_store.specs.declared.data.Exhausted.TheVariants.{Memory, Ids}
 use Rattle.resolve.specs.declared.run.Fault.{Fault}

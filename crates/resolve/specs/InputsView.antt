@@ -1,8 +1,7 @@
 -- A request as an input, and what a statement adds to it.
-use Rattle.std.specs.Prelude.{◌≡◌, ℕ, ◌<◌, ◌≤◌, ◌⊎◌, ⊤, Bool, List, Some, None, MatchBool, length, slice_get}
-use Rattle.resolve.specs.declared.ids.Version.{Version}
+use Rattle.std.specs.Prelude.{◌≡◌, ℕ, ◌⊎◌, ⊤, Bool, List, Some, None, MatchBool}
 use Rattle.resolve.specs.declared.request.Request.{Request}
-use Rattle.resolve.specs.Catalogs.{Tables, tables_in}
+use Rattle.resolve.specs.Catalogs.{tables_in}
 use Rattle.resolve.specs.Meaning.{Input, after_one}
 use Rattle.resolve.specs.Said.{Said}
 use Rattle.resolve.specs.Spelling.{Says}

@@ -1,5 +1,5 @@
 -- The outcome of an input.
-use Rattle.std.specs.Prelude.{◌≡◌, ℕ, List, MatchResult, Result, Vec, ⊤, string_bytes}
+use Rattle.std.specs.Prelude.{ℕ, List, MatchResult, Result, Vec, ⊤, string_bytes}
 use Rattle.std.specs.Global.{Global}
 use Rattle.resolvo.specs.Answers.{IsSoftAnswer}
 use Rattle.resolvo.specs.Conflicts.{rules_in}
@@ -9,7 +9,6 @@ use Rattle.resolvo.specs.declared.solver.UnsolvableOrCancelled.TheVariants.{Unso
 use Rattle.resolve.specs.declared.catalog.Catalog.{Catalog}
 use Rattle.resolve.specs.declared.ids.NameId.{NameId}
 use Rattle.resolve.specs.declared.ids.SolvableId.{SolvableId}
-use Rattle.resolve.specs.declared.request.InputError.{InputError}
 use Rattle.resolve.specs.declared.request.Request.{Request}
 use Rattle.resolve.specs.declared.run.Fault.{Fault}
 use Rattle.resolve.specs.declared.run.Fault.TheVariants.{BadStatement, UnreadableInput, UnwritableOutput, Exhausted as RanOut}

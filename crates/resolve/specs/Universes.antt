@@ -1,9 +1,8 @@
 -- The universe of what was declared.
-use Rattle.std.specs.Prelude.{◌≡◌, ℕ, List, [], ◌∷◌, ◌++◌, codes, slice_get, slice_index_or, Option, Some, None}
+use Rattle.std.specs.Prelude.{ℕ, List, [], ◌∷◌, ◌++◌, codes, slice_get, slice_index_or}
 use Rattle.resolver_clause_store.specs.Universe.{Demands, Universe}
 use Rattle.resolve.specs.declared.ids.NameId.{NameId}
 use Rattle.resolve.specs.declared.ids.SolvableId.{SolvableId}
-use Rattle.resolve.specs.declared.ids.Version.{Version}
 use Rattle.resolve.specs.Catalogs.{Tables, left_out, listing_of, needs_of_solvable, rising_versions, same_solvable_ids, taken, version_set_at}
 use Rattle.resolve.specs.Conditions.{condition_at}
 use Rattle.resolve.specs.Meaning.{Input}

@@ -459,6 +459,5 @@ impl Request {
 }
 
 mod known;
-
 #[cfg(test)]
 mod tests;
