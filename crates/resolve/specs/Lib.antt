@@ -38,3 +38,4 @@ pub mod Universes
 pub mod Versions
 pub mod Words
 pub mod WordsView
+pub mod WorkedProvider

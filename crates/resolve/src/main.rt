@@ -15,6 +15,8 @@ mod statement;
 #[cfg(test)]
 mod store_tests;
 mod words;
+#[cfg(test)]
+mod worked_provider;
 
 pub use run::{fault_text, run};
 use std::process::ExitCode;
