@@ -15,7 +15,6 @@ mod statement;
 #[cfg(test)]
 mod store_tests;
 mod words;
-#[cfg(test)]
 mod worked_provider;
 
 pub use run::{fault_text, run};
