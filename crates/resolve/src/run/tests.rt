@@ -5,7 +5,6 @@ mod examples;
 mod failing;
 mod known_words;
 mod statements;
-mod without_scores;
 
 use super::{fault_text, run};
 use resolver_clause_store::Exhausted;
