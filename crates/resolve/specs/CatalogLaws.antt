@@ -18,7 +18,7 @@ use Rattle.resolve.specs.declared.catalog.Catalog.{Catalog}
 use Rattle.resolve.specs.Packages.{name_at, preference, IsVersionOf, IsPackageOf}
 use Rattle.resolve.specs.Conditions.{condition_or_first}
 use Rattle.resolve.specs.Catalogs.{catalog_universe, listing_of, takes, version_set_at, same_solvable_ids}
-use Rattle.resolve.specs.SortingLemmas.{IsPermutation-sorted_by}
+use Rattle.resolver_clause_store.specs.SortingLemmas.{IsPermutation-sorted_by}
 
 parts_lower_at : (o : Option Condition) (op : LogicalOperator) (a b : ConditionId) → condition_or_first o ≡ Binary op a b → o ≡ Some (Binary op a b)
 parts_lower_at None op a b e = absurd cc

@@ -18,7 +18,7 @@ use Rattle.resolve.specs.Listings.{Package as Listing}
 use Rattle.resolve.specs.declared.catalog.Catalog.{Catalog}
 use Rattle.resolve.specs.Ranges.{range_takes, range_text}
 use Rattle.resolve.specs.Versions.{versions_text}
-use Rattle.resolve.specs.Sorting.{sorted_by}
+use Rattle.resolver_clause_store.specs.Sorting.{sorted_by}
 use Rattle.resolve.specs.Packages.{name_at, version_at, preference}
 use Rattle.resolve.specs.Conditions.{condition_at}
 

@@ -26,8 +26,7 @@ pub mod Runs
 pub mod Said
 pub mod Signs
 pub mod Solvables
-pub mod Sorting
-pub mod SortingLemmas
+pub mod PreferenceLemmas
 pub mod Spelling
 pub mod Statements
 pub mod StatementsSaid

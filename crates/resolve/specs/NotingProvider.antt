@@ -3,13 +3,12 @@
 use Rattle.std.specs.Prelude.{◌≡◌, ◌≢◌, ℕ, ◌+◌, ◌*◌, ◌/◌, ◌%◌, Bool, true, false, cond, not, nat_eq, nat_lt, nat_le, List, [], ◌∷◌, Some, None, All, AllPairs}
 use Rattle.std.specs.Prelude.{filter, reverse, codes, refl, length, ◌<◌}
 use Rattle.std.proofs.Common.{arith, ap}
-use Rattle.std.proofs.lemmas.Bool.{eqb-true, eq-eqb}
 use Rattle.std.proofs.lemmas.List.Elements.{All-nil, All-cons, All-contains}
 use Rattle.std.proofs.lemmas.List.Kept.{AllPairs-cons}
 use Rattle.std.proofs.lemmas.List.Sorted.{IsPermutation-reverse}
 use Rattle.resolver_clause_store.specs.Filtering.{Splits-filter}
 use Rattle.resolver_clause_store.specs.Universe.{Universe, Package, Needs, known, unknown, hint_none, hint_some}
-use Rattle.resolver_clause_store.specs.Laws.{IsIdentity, HasLawfulIds, IsLawfulPackage, HasLawfulPackages}
+use Rattle.resolver_clause_store.specs.Laws.{HasLawfulIds, IsLawfulPackage, HasLawfulPackages}
 use Rattle.resolver_clause_store.specs.declared.VersionSetId.{VersionSetId}
 use Rattle.resolver_clause_store.specs.declared.Condition.TheVariants.{Requirement}
 
@@ -53,9 +52,6 @@ test_universe members = record {
   others_of = λ xs v. filter (λ s. not (takes v s)) xs;
   sorted_of = reverse;
 }
-
-pub numbers_are_values : IsIdentity nat_eq
-numbers_are_values = record { alone = eqb-true; itself = λ a. eq-eqb a a refl }
 
 pub test_ids_lawful : (members : List VersionSetId) → HasLawfulIds (test_universe members)
 test_ids_lawful members = record { left_lower = λ i a b op e. absurd cc; right_lower = λ i a b op e. absurd cc }

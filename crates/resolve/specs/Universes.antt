@@ -8,7 +8,7 @@ use Rattle.resolve.specs.Conditions.{condition_at}
 use Rattle.resolve.specs.Meaning.{Input}
 use Rattle.resolve.specs.Packages.{name_at, preference}
 use Rattle.resolve.specs.Ranges.{range_text}
-use Rattle.resolve.specs.Sorting.{sorted_by}
+use Rattle.resolver_clause_store.specs.Sorting.{sorted_by}
 use Rattle.resolve.specs.Versions.{versions_text}
 
 -- the name of the first solvable, and the versions of all of them

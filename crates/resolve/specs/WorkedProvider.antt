@@ -1,18 +1,18 @@
 -- What the worked provider says, as one record, and its laws.
 use Rattle.std.specs.Prelude.{◌≡◌, ◌≢◌, ℕ, ◌+◌, ◌<◌, ◌&&◌, Bool, true, not, nat_eq, nat_le, List, [], ◌∷◌, ◌++◌, Option, Some, None}
-use Rattle.std.specs.Prelude.{AllPairs, codes, length, filter, map, refl, slice_get}
+use Rattle.std.specs.Prelude.{AllPairs, codes, length, filter, map, slice_get}
 use Rattle.std.specs.List.{flat_map, range_with_len}
 use Rattle.std.specs.Option.{option_map_or}
 use Rattle.std.specs.Fmt.{decimal}
 use Rattle.std.proofs.Common.{arith, ◌∙◌, sym}
-use Rattle.std.proofs.lemmas.Bool.{eqb-true, eq-eqb}
+use Rattle.std.proofs.lemmas.Bool.{eqb-true}
 use Rattle.std.proofs.lemmas.List.Elements.{All-nil, All-contains, filter_passes}
 use Rattle.std.proofs.lemmas.List.FromFn.{get_or-range_with_len, length-range_with_len}
 use Rattle.std.proofs.lemmas.List.Kept.{AllPairs-filter}
 use Rattle.std.proofs.lemmas.List.Sorted.{IsPermutation-refl}
 use Rattle.resolver_clause_store.specs.Filtering.{Splits-filter}
 use Rattle.resolver_clause_store.specs.Universe.{Universe, known, hint_none}
-use Rattle.resolver_clause_store.specs.Laws.{IsIdentity, HasLawfulIds, HasLawfulPackages}
+use Rattle.resolver_clause_store.specs.Laws.{HasLawfulIds, HasLawfulPackages}
 use Rattle.resolver_clause_store.specs.declared.Condition.TheVariants.{Requirement}
 use Rattle.resolver_clause_store.specs.declared.ConditionalRequirement.{ConditionalRequirement}
 use Rattle.resolver_clause_store.specs.declared.Requirement.TheVariants.{Single}
@@ -105,9 +105,6 @@ worked_universe = record {
 }
 
 -- the laws
-pub numbers_are_values : IsIdentity nat_eq
-numbers_are_values = record { alone = eqb-true; itself = λ a. eq-eqb a a refl }
-
 pub worked_ids_lawful : HasLawfulIds worked_universe
 worked_ids_lawful = record { left_lower = λ i a b op e. absurd cc; right_lower = λ i a b op e. absurd cc }
 

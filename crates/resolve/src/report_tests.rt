@@ -1,5 +1,6 @@
 //! Tests of the report. They are here and not in its crate, so that it is proved only once.
 
+mod clones;
 mod indents;
 mod marks;
 mod message;

@@ -4,10 +4,10 @@
 //! such a package has no name and no releases, and a release or version set is 0.0.0 of package 0.
 
 ghost use Rattle.std.specs.Prelude.{◌≡◌, IfErr, IfOk, Some, refl, string_bytes};
+ghost use Rattle.resolver_clause_store.specs.Laws.{numbers_are_values};
 ghost use Rattle.resolve.specs.WorkedProvider.{
   listed_in,
   name_at,
-  numbers_are_values,
   range_takes,
   range_text as text_of_range,
   release_at,

@@ -4,7 +4,7 @@ use Rattle.std.proofs.Common.{◌∙◌, take, drop, length-append, subst}
 use Rattle.std.specs.Prelude.{slice_range}
 use Rattle.std.proofs.Math.Seq.{drop-append_seam}
 use Rattle.std.proofs.lemmas.List.{drop-append-le, get_or_read, length-drop, take-append-le, take_all}
-use Rattle.resolver_clause_store.specs.declared.literals.Literal.{Literal}
+use Rattle.resolver_clause_store.specs.Literals.{Literal}
 use Rattle.resolver_clause_store.specs.Clauses.{AreEnds, between}
 use Rattle.resolver_clause_store.specs.Formula.{clause_at}
 

@@ -1,9 +1,9 @@
 -- The lists of watches: the number of times that a clause is in a list, and the effect of writing a list.
-use Rattle.std.proofs.Common.{◌≡◌, ◌≢◌, ℕ, ◌+◌, ◌-◌, ◌*◌, ◌<◌, ◌≤◌, ◌⊎◌, List, [], ◌∷◌, ◌++◌, length, get_or, set, Option, Some, None, Bool, true, false, cond}
+use Rattle.std.proofs.Common.{◌≡◌, ◌≢◌, ℕ, ◌+◌, ◌-◌, ◌*◌, ◌<◌, ◌≤◌, ◌⊎◌, List, [], ◌∷◌, ◌++◌, length, get_or, set, take, Option, Some, None, Bool, true, false, cond}
 use Rattle.std.proofs.Common.{eqb, arith, rules, inl, inr, refl, zero, suc, sym, ap, true≢false, ◌∙◌, subst, ⊎_elim, length-set, get_or-set_same, get_or-set_other}
 use Rattle.std.proofs.Common.{length-append}
 use Rattle.std.proofs.Math.ListN.{get_or-append}
-use Rattle.std.proofs.Math.Seq.{get_or-append_seam, set-append_seam}
+use Rattle.std.proofs.Math.Seq.{get_or-append_seam, set-append_seam, take-append_seam}
 use Rattle.std.specs.Prelude.{All, Contains, IfSome, MatchOption}
 use Rattle.std.specs.Bool.{beq}
 use Rattle.std.specs.List.{slice_get, count_by, swap_remove}
@@ -12,7 +12,7 @@ use Rattle.std.proofs.lemmas.List.Elements.{All-push, All-set, All-take}
 use Rattle.std.proofs.lemmas.Bool.{cases_Bool, cases_eq, cases_lt, cond-true, cond-false, eq-eqb, ne_eqb}
 use Rattle.std.proofs.lemmas.List.Sums.{sum_by-swap_remove, sum_by-append, sum_by-cons, sum_by-remove, sum_by-set}
 use Rattle.std.proofs.lemmas.List.{get_or-take, get_or_past, length-take-le}
-use Rattle.resolver_clause_store.specs.declared.literals.Literal.{Literal}
+use Rattle.resolver_clause_store.specs.Literals.{Literal, is_literal, list_number}
 use Rattle.resolver_clause_store.specs.declared.trail.Trail.{Trail}
 use Rattle.resolver_clause_store.specs.Formula.{clause_at}
 use Rattle.resolver_clause_store.specs.Unsatisfied.{IsFirstUnsatisfied, IsNextUnsatisfied}
@@ -20,10 +20,9 @@ use Rattle.resolver_clause_store.specs.declared.placed_watch.PlacedWatch.{Placed
 use Rattle.resolver_clause_store.specs.declared.watches.Watch.{Watch}
 use Rattle.resolver_clause_store.specs.declared.pairs.WatchedPair.{WatchedPair}
 use Rattle.resolver_clause_store.specs.NumberedLists.{PutsList}
-use Rattle.resolver_clause_store.specs.Watches.{FitClauses, FitsClause, IsPair, IsWatched, IsWatching, MovesWatch, SameClauses, entry_count, is_literal}
-use Rattle.resolver_clause_store.specs.Watches.{is_watched, list_at, list_number, no_watch, pair_at, pair_count, replaced, same, stands_in, unwatched, watch_at, with_blocker}
+use Rattle.resolver_clause_store.specs.Watches.{FitClauses, FitsClause, HasLiteral, IsPair, IsWatched, IsWatching, MovesWatch, PutsBoth, SameClauses, entry_count}
+use Rattle.resolver_clause_store.specs.Watches.{list_at, no_watch, pair_at, pair_count, replaced, same, unwatched, watch_at, with_blocker}
 use Rattle.resolver_clause_store.proofs.BoolLemmas.{beq-itself, beq-true}
-use Rattle.resolver_clause_store.specs.Watches.{watched_pair}
 
 pub list_at-past : (lists : List (List Watch)) (list : ℕ) → length lists ≤ list → list_at lists list ≡ []
 list_at-past lists list past = get_or_past lists list [] past
@@ -98,22 +97,31 @@ watched-step lists new pairs number pair gains loses watched inside counts now =
     (cases_eq n number)
 
 -- a clause in one more list
-pub watched-attach : (lists new : List (List Watch)) (pairs : List WatchedPair) (list : ℕ) (watch : Watch) (pair : WatchedPair) → IsWatched lists pairs →
-    watch.number < length pairs → PutsList lists new list (list_at lists list ++ watch ∷ []) →
-    ((l : ℕ) → pair_count pair l ≡ pair_count (pair_at pairs watch.number) l + same list l) → IsWatched new (set pairs watch.number pair)
-watched-attach lists new pairs list watch pair watched inside pushed now =
-    watched-step lists new pairs watch.number pair (λ l. same list l) (λ l. 0) watched inside
-    (λ l n. ⊎_elim
+count-pushed : (lists new : List (List Watch)) (list : ℕ) (watch : Watch) → PutsList lists new list (list_at lists list ++ watch ∷ []) → (l n : ℕ) →
+    entry_count new l n ≡ entry_count lists l n + same list l * same watch.number n
+count-pushed lists new list watch pushed l n = ⊎_elim
     (λ (e : l ≡ list).
     let t = count-push lists new list watch pushed n in
     let f1 = same-itself list list refl in
-    subst (λ k. entry_count new k n + 0 * same watch.number n ≡ entry_count lists k n + same list k * same watch.number n) (sym e) (rw f1 (omega (arith, t))))
+    subst (λ k. entry_count new k n ≡ entry_count lists k n + same list k * same watch.number n) (sym e) (rw f1 (omega (arith, t))))
     (λ (ne : l ≢ list).
     let t = count-others lists new list _ pushed l n ne in
     let f0 = same-differ list l (λ w. ne (sym w)) in
     rw f0 (omega (arith, t)))
-    (cases_eq l list))
-    (λ l. omega (arith, now l))
+    (cases_eq l list)
+
+-- a clause in the lists of its two literals
+pub count-both : (lists new : List (List Watch)) (pair : WatchedPair) (number : ℕ) (is_binary : Bool) → PutsBoth lists new pair number is_binary → (l n : ℕ) →
+    entry_count new l n ≡ entry_count lists l n + (same (list_number pair.first) l + same (list_number pair.second) l) * same number n
+count-both lists new pair number is_binary puts l n =
+    let one = count-pushed lists puts.between (list_number pair.first) _ puts.first l n in
+    let two = count-pushed puts.between new (list_number pair.second) _ puts.second l n in
+    let one_or_none : (same number n ≡ 1) ⊎ (same number n ≡ 0) = ⊎_elim
+    (λ (e : number ≡ n). inl (same-itself number n e)) (λ (ne : number ≢ n). inr (same-differ number n ne)) (cases_eq number n) in
+    ⊎_elim
+    (λ (e : same number n ≡ 1). rw e (omega (arith, rw e at one, rw e at two)))
+    (λ (e : same number n ≡ 0). rw e (omega (arith, rw e at one, rw e at two)))
+    one_or_none
 
 -- a clause that moved from one list to another
 pub watched-move : (lists mid new : List (List Watch)) (pairs : List WatchedPair) (from to place : ℕ) (d watch : Watch) (pair : WatchedPair) →
@@ -181,106 +189,84 @@ is_literal-true one other e = ⊎_elim
 pub is_literal-itself : (one : Literal) → is_literal one one ≡ true
 is_literal-itself one = cond-true _ _ _ (eq-eqb one.variable one.variable refl) ∙ beq-itself one.positive
 
+pub is_literal-same : (one other : Literal) → one ≡ other → is_literal one other ≡ true
+is_literal-same one other e = ap (λ (l : Literal). is_literal one l) (sym e) ∙ is_literal-itself one
+
 pub is_literal-differ : (one other : Literal) → one ≢ other → is_literal one other ≡ false
 is_literal-differ one other ne =
     ⊎_elim (λ (t : is_literal one other ≡ true). absurd (ne (is_literal-true one other t))) (λ (f : is_literal one other ≡ false). f)
     (cases_Bool (is_literal one other))
 
-is_watched-true : (watched : Option Literal) (literal : Literal) → is_watched watched literal ≡ true → watched ≡ Some literal
-is_watched-true None literal e = absurd (true≢false (sym e))
-is_watched-true (Some one) literal e = ap (λ (l : Literal). Some l) (is_literal-true one literal e)
-
-stands-same : (literal : Literal) (list : ℕ) → stands_in (Some literal) list ≡ same (list_number literal) list
-unfolding stands_in
-stands-same literal list = refl
-
-stands-none : (list : ℕ) → stands_in None list ≡ 0
-unfolding stands_in
-stands-none list = refl
-
-is_watched-false : (watched : Option Literal) (literal : Literal) → is_watched watched literal ≡ false → stands_in watched (list_number literal) ≡ 0
-is_watched-false None literal e = stands-none _
-is_watched-false (Some one) literal e = stands-same one _ ∙
-    same-differ _ _ (λ w. true≢false (sym (ap (λ (l : Literal). is_literal l literal) (list_number-injective one literal w) ∙ is_literal-itself literal) ∙ e))
-
-stands-positive : (watched : Option Literal) (literal : Literal) → 0 < stands_in watched (list_number literal) → watched ≡ Some literal
-stands-positive None literal e = absurd (omega (arith, e, stands-none (list_number literal)))
-stands-positive (Some one) literal e = ⊎_elim
-    (λ (w : list_number one ≡ list_number literal). ap (λ (l : Literal). Some l) (list_number-injective one literal w))
-    (λ (ne : list_number one ≢ list_number literal). absurd (omega (arith, e, stands-same one (list_number literal), same-differ _ _ ne)))
-    (cases_eq (list_number one) (list_number literal))
+pub cases_literal : (one other : Literal) → (one ≡ other) ⊎ (one ≢ other)
+cases_literal one other = ⊎_elim
+    (λ (t : is_literal one other ≡ true). inl (is_literal-true one other t))
+    (λ (f : is_literal one other ≡ false). inr (λ e. true≢false (sym (is_literal-same one other e) ∙ f)))
+    (cases_Bool (is_literal one other))
 
 -- the number of times that a clause with this pair has to be in a list
-pub pair-parts : (pair : WatchedPair) (list : ℕ) → pair_count pair list ≡ stands_in pair.first list + stands_in pair.second list
+pub pair-none : (pair : WatchedPair) (list : ℕ) → pair.first ≡ pair.second → pair_count pair list ≡ 0
 unfolding pair_count
-pair-parts pair list = refl
+pair-none pair list e = cond-true _ _ _ (is_literal-same pair.first pair.second e)
 
-pub pair-none : (list : ℕ) → pair_count unwatched list ≡ 0
-pair-none list = omega (arith, pair-parts unwatched list, stands-none list)
+pub pair-two : (pair : WatchedPair) (list : ℕ) → pair.first ≢ pair.second →
+    pair_count pair list ≡ same (list_number pair.first) list + same (list_number pair.second) list
+unfolding pair_count
+pair-two pair list differ = cond-false _ _ _ (is_literal-differ pair.first pair.second differ)
 
-pub pair-first : (first : Literal) (list : ℕ) →
-    pair_count (record { first = Some first; second = None }) list ≡ pair_count unwatched list + same (list_number first) list
-pair-first first list = omega (arith, pair-none list, pair-parts (record { first = Some first; second = None }) list, stands-same first list, stands-none list)
+same-literal : (one other : Literal) → 0 < same (list_number one) (list_number other) → one ≡ other
+same-literal one other positive = ⊎_elim
+    (λ (e : list_number one ≡ list_number other). list_number-injective one other e)
+    (λ (ne : list_number one ≢ list_number other). absurd (omega (arith, positive, same-differ _ _ ne)))
+    (cases_eq (list_number one) (list_number other))
 
-pub pair-second : (first second : Literal) (list : ℕ) →
-    pair_count (watched_pair first second) list ≡ pair_count (record { first = Some first; second = None }) list + same (list_number second) list
-pair-second first second list =
-    omega (
-      arith,
-      pair-parts (watched_pair first second) list,
-      pair-parts (record { first = Some first; second = None }) list,
-      stands-same second list,
-      stands-none list,
-    )
-
-pub pair-watching : (pair : WatchedPair) (literal : Literal) → 0 < pair_count pair (list_number literal) → (pair.first ≡ Some literal) ⊎
-    (pair.second ≡ Some literal)
+pub pair-watching : (pair : WatchedPair) (literal : Literal) → 0 < pair_count pair (list_number literal) → HasLiteral pair literal
 pair-watching pair literal positive = ⊎_elim
-    (λ (none : stands_in pair.first (list_number literal) ≡ 0). inr
-    (stands-positive pair.second literal (omega (arith, positive, none, pair-parts pair (list_number literal)))))
-    (λ (some : stands_in pair.first (list_number literal) ≢ 0). inl (stands-positive pair.first literal (omega (arith, some))))
-    (cases_eq (stands_in pair.first (list_number literal)) 0)
+    (λ (e : pair.first ≡ pair.second). absurd (omega (arith, positive, pair-none pair (list_number literal) e)))
+    (λ (differ : pair.first ≢ pair.second). record {
+      differ = differ;
+      is = ⊎_elim
+          (λ (none : same (list_number pair.first) (list_number literal) ≡ 0).
+          inr (same-literal pair.second literal (omega (arith, positive, none, pair-two pair (list_number literal) differ))))
+          (λ (some : same (list_number pair.first) (list_number literal) ≢ 0). inl (same-literal pair.first literal (omega (arith, some))))
+          (cases_eq (same (list_number pair.first) (list_number literal)) 0);
+    })
+    (cases_literal pair.first pair.second)
 
-pub pair-positive : (pair : WatchedPair) (literal : Literal) → (pair.first ≡ Some literal) ⊎ (pair.second ≡ Some literal) →
-    0 < pair_count pair (list_number literal)
-pair-positive pair literal watching = ⊎_elim
-    (λ (e : pair.first ≡ Some literal). omega (
-      arith,
-      pair-parts pair (list_number literal),
-      ap (λ o. stands_in o (list_number literal)) e,
-      stands-same literal (list_number literal),
-      same-itself (list_number literal) (list_number literal) refl,
-    ))
-    (λ (e : pair.second ≡ Some literal). omega (
-      arith,
-      pair-parts pair (list_number literal),
-      ap (λ o. stands_in o (list_number literal)) e,
-      stands-same literal (list_number literal),
-      same-itself (list_number literal) (list_number literal) refl,
-    ))
-    watching
+pub pair-positive : (pair : WatchedPair) (literal : Literal) → HasLiteral pair literal → 0 < pair_count pair (list_number literal)
+pair-positive pair literal watching =
+    let two = pair-two pair (list_number literal) watching.differ in
+    ⊎_elim
+    (λ (e : pair.first ≡ literal). omega (arith, two, same-itself _ _ (ap (λ (l : Literal). list_number l) e)))
+    (λ (e : pair.second ≡ literal). omega (arith, two, same-itself _ _ (ap (λ (l : Literal). list_number l) e)))
+    watching.is
 
 -- a pair with one literal replaced
-pub replaced-count : (pair : WatchedPair) (from to : Literal) → 0 < pair_count pair (list_number from) → (list : ℕ) →
+pub replaced-count : (pair : WatchedPair) (from to : Literal) → HasLiteral pair from → (HasLiteral pair to → ⊥) → (list : ℕ) →
     pair_count (replaced pair from to) list + same (list_number from) list ≡ pair_count pair list + same (list_number to) list
-replaced-count pair from to positive list = ⊎_elim
-    (λ (t : is_watched pair.first from ≡ true).
-    let is : replaced pair from to ≡ record { first = Some to; second = pair.second } = cond-true _ _ _ t in
-    let counted = ap (λ (p : WatchedPair). pair_count p list) is ∙ pair-parts (record { first = Some to; second = pair.second }) list in
-    let was = ap (λ o. stands_in o list) (is_watched-true pair.first from t) in
-    omega (arith, counted, was, pair-parts pair list, stands-same to list, stands-same from list))
-    (λ (f : is_watched pair.first from ≡ false).
-    let is : replaced pair from to ≡ record { first = pair.first; second = Some to } = cond-false _ _ _ f in
-    let counted = ap (λ (p : WatchedPair). pair_count p list) is ∙ pair-parts (record { first = pair.first; second = Some to }) list in
-    let second = stands-positive pair.second from (omega (arith, positive, is_watched-false pair.first from f, pair-parts pair (list_number from))) in
-    let was = ap (λ o. stands_in o list) second in
-    omega (arith, counted, was, pair-parts pair list, stands-same to list, stands-same from list))
-    (cases_Bool (is_watched pair.first from))
+replaced-count pair from to has free list =
+    let was = pair-two pair list has.differ in
+    ⊎_elim
+    (λ (t : is_literal pair.first from ≡ true).
+    let after : WatchedPair = record { first = to; second = pair.second } in
+    let is : replaced pair from to ≡ after = cond-true _ _ _ t in
+    let now = pair-two after list (λ e. free (record { differ = has.differ; is = inr (sym e) })) in
+    let first = ap (λ (l : Literal). same (list_number l) list) (is_literal-true pair.first from t) in
+    omega (arith, ap (λ (p : WatchedPair). pair_count p list) is, now, was, first))
+    (λ (f : is_literal pair.first from ≡ false).
+    let after : WatchedPair = record { first = pair.first; second = to } in
+    let is : replaced pair from to ≡ after = cond-false _ _ _ f in
+    let now = pair-two after list (λ e. free (record { differ = has.differ; is = inl e })) in
+    let other : pair.second ≡ from = ⊎_elim
+    (λ (e : pair.first ≡ from). absurd (true≢false (sym (is_literal-same pair.first from e) ∙ f))) (λ (e : pair.second ≡ from). e) has.is in
+    let second = ap (λ (l : Literal). same (list_number l) list) other in
+    omega (arith, ap (λ (p : WatchedPair). pair_count p list) is, now, was, second))
+    (cases_Bool (is_literal pair.first from))
 
 pub replaced-pair : (pair : WatchedPair) (from to kept : Literal) → from ≢ kept → IsPair pair from kept → IsPair (replaced pair from to) to kept
 replaced-pair pair from to kept ne is = ⊎_elim
-    (λ (e : pair ≡ watched_pair from kept). inl (ap (λ (p : WatchedPair). replaced p from to) e ∙ cond-true _ _ _ (is_literal-itself from)))
-    (λ (e : pair ≡ watched_pair kept from).
+    (λ (e : pair ≡ record { first = from; second = kept }).
+    inl (ap (λ (p : WatchedPair). replaced p from to) e ∙ cond-true _ _ _ (is_literal-itself from)))
+    (λ (e : pair ≡ record { first = kept; second = from }).
     inr (ap (λ (p : WatchedPair). replaced p from to) e ∙ cond-false _ _ _ (is_literal-differ kept from (λ w. ne (sym w)))))
     is
 
@@ -289,7 +275,7 @@ pub watched-empty : (lists : List (List Watch)) (pairs : List WatchedPair) → l
 unfolding entry_count
 watched-empty lists pairs none empty = λ l n.
     ap (λ ws. count_by (λ (w : Watch). eqb w.number n) ws) (list_at-past lists l (omega (arith, ap (λ xs. length xs) none))) ∙
-    sym (ap (λ (p : WatchedPair). pair_count p l) (pair_at-past pairs n (omega (arith, ap (λ xs. length xs) empty))) ∙ pair-none l)
+    sym (ap (λ (p : WatchedPair). pair_count p l) (pair_at-past pairs n (omega (arith, ap (λ xs. length xs) empty))) ∙ pair-none unwatched l refl)
 
 -- the same lists
 pub watched-lists : (lists new : List (List Watch)) (pairs : List WatchedPair) → ((list : ℕ) → list_at new list ≡ list_at lists list) →
@@ -312,17 +298,52 @@ pair_at-before pairs pair number inside = get_or-append pairs (pair ∷ []) unwa
 pub pair_at-last : (pairs : List WatchedPair) (pair : WatchedPair) → pair_at (pairs ++ pair ∷ []) (length pairs) ≡ pair
 pair_at-last pairs pair = get_or-append_seam pairs pair [] unwatched
 
-unwatched-more : (pairs : List WatchedPair) (number : ℕ) → pair_at (pairs ++ unwatched ∷ []) number ≡ pair_at pairs number
-unwatched-more [] zero = refl
-unwatched-more [] (suc number) = refl
-unwatched-more (pair ∷ pairs) zero = refl
-unwatched-more (pair ∷ pairs) (suc number) = unwatched-more pairs number
+pair_at-other : (pairs : List WatchedPair) (pair : WatchedPair) (number : ℕ) → number ≢ length pairs →
+    pair_at (pairs ++ pair ∷ []) number ≡ pair_at pairs number
+pair_at-other [] pair zero ne = absurd (ne refl)
+pair_at-other [] pair (suc number) ne = refl
+pair_at-other (one ∷ pairs) pair zero ne = refl
+pair_at-other (one ∷ pairs) pair (suc number) ne = pair_at-other pairs pair number (λ e. ne (ap suc e))
 
-pub watched-more : (added : Bool) (lists : List (List Watch)) (pairs more : List WatchedPair) →
-    more ≡ cond added (pairs ++ unwatched ∷ []) pairs → IsWatched lists pairs → IsWatched lists more
-watched-more true lists pairs more is watched = λ l n. watched l n ∙
-    ap (λ (p : WatchedPair). pair_count p l) (sym (ap (λ (ps : List WatchedPair). pair_at ps n) is ∙ unwatched-more pairs n))
-watched-more false lists pairs more is watched = λ l n. watched l n ∙ ap (λ (ps : List WatchedPair). pair_count (pair_at ps n) l) (sym is)
+watched-added : (lists new : List (List Watch)) (pairs : List WatchedPair) (pair : WatchedPair) (gains : ℕ → ℕ) → IsWatched lists pairs →
+    ((l n : ℕ) → entry_count new l n ≡ entry_count lists l n + gains l * same (length pairs) n) → ((l : ℕ) → pair_count pair l ≡ gains l) →
+    IsWatched new (pairs ++ pair ∷ [])
+watched-added lists new pairs pair gains watched counts now = λ l n. ⊎_elim
+    (λ (e : n ≡ length pairs).
+    let one = same-itself (length pairs) n (sym e) in
+    let here = ap (λ k. pair_at (pairs ++ pair ∷ []) k) e ∙ pair_at-last pairs pair in
+    let was = pair_at-past pairs n (omega (arith, e)) in
+    omega (
+      arith,
+      rw one at (counts l n),
+      watched l n,
+      ap (λ (p : WatchedPair). pair_count p l) here,
+      ap (λ (p : WatchedPair). pair_count p l) was,
+      pair-none unwatched l refl,
+      now l,
+    ))
+    (λ (ne : n ≢ length pairs).
+    let none = same-differ (length pairs) n (λ e. ne (sym e)) in
+    omega (arith, rw none at (counts l n), watched l n, ap (λ (p : WatchedPair). pair_count p l) (pair_at-other pairs pair n ne)))
+    (cases_eq n (length pairs))
+
+-- one more clause, which watches nothing
+pub watched-none : (lists : List (List Watch)) (pairs more : List WatchedPair) (pair : WatchedPair) → more ≡ pairs ++ pair ∷ [] →
+    pair.first ≡ pair.second → IsWatched lists pairs → IsWatched lists more
+watched-none lists pairs more pair is none watched = rw is
+    (watched-added lists lists pairs pair (λ l. 0) watched (λ l n. omega arith) (λ l. pair-none pair l none))
+
+-- one more clause, which watches two literals
+pub watched-both : (lists new : List (List Watch)) (pairs more : List WatchedPair) (pair : WatchedPair) (is_binary : Bool) → more ≡ pairs ++ pair ∷ [] →
+    pair.first ≢ pair.second → PutsBoth lists new pair (length pairs) is_binary → IsWatched lists pairs → IsWatched new more
+watched-both lists new pairs more pair is_binary is differ puts watched = rw is
+    (watched-added lists new pairs pair (λ l. same (list_number pair.first) l + same (list_number pair.second) l) watched
+    (count-both lists new pair (length pairs) is_binary puts) (λ l. pair-two pair l differ))
+
+pub popped : (pairs more left : List WatchedPair) (pair : WatchedPair) → more ≡ pairs ++ pair ∷ [] → left ≡ take (length more - 1) more → left ≡ pairs
+popped pairs more left pair is taken =
+    let last : length (pairs ++ pair ∷ []) - 1 ≡ length pairs = omega (arith, length-append pairs (pair ∷ [])) in
+    taken ∙ ap (λ (ps : List WatchedPair). take (length ps - 1) ps) is ∙ ap (λ n. take n (pairs ++ pair ∷ [])) last ∙ take-append_seam pairs (pair ∷ [])
 
 -- a clause in the list of a literal watches the literal
 pub listed-watching : (lists : List (List Watch)) (pairs : List WatchedPair) (literal : Literal) (place : ℕ) (watch : Watch) → IsWatched lists pairs →
@@ -363,18 +384,12 @@ next-watching lists pairs trail literal from list watches (Some placed) watched 
     listed-watching lists pairs literal placed.place placed.watch watched
     (ap (λ (ws : List Watch). slice_get ws placed.place) (sym (is ∙ ap (λ l. list_at lists l) named)) ∙ value.is)
 
-some-none : {A : Type 0} (literal : Literal) → None ≡ Some literal → A
-some-none literal e = absurd cc
-
 pub watching-number : (pairs : List WatchedPair) (number : ℕ) (literal : Literal) → IsWatching pairs number literal → number < length pairs
 watching-number pairs number literal watching = ⊎_elim
     (λ (less : number < length pairs). less)
     (λ (more : length pairs ≤ number).
     let past = pair_at-past pairs number more in
-    ⊎_elim
-    (λ (e : (pair_at pairs number).first ≡ Some literal). some-none literal (sym (ap (λ (p : WatchedPair). p.first) past) ∙ e))
-    (λ (e : (pair_at pairs number).second ≡ Some literal). some-none literal (sym (ap (λ (p : WatchedPair). p.second) past) ∙ e))
-    watching)
+    absurd (watching.differ (ap (λ (p : WatchedPair). p.first) past ∙ sym (ap (λ (p : WatchedPair). p.second) past))))
     (cases_lt number (length pairs))
 
 -- a clause is in the list of each literal that it watches
@@ -479,6 +494,20 @@ taken-before watches place d k inside before =
     get_or-set_other watches place k _ d (λ e. absurd (omega (arith, e, before))))
     ∙ sym (slice_get-get_or watches k d (omega (arith, inside, before)))
 
+-- a watch that was added and taken back
+pub taken-back : (old mid new : List (List Watch)) (list : ℕ) (watch : Watch) → PutsList old mid list (list_at old list ++ watch ∷ []) →
+    PutsList mid new list (swap_remove (list_at mid list) (length (list_at old list)) watch) → (l : ℕ) → list_at new l ≡ list_at old l
+taken-back old mid new list watch pushed taken l = ⊎_elim
+    (λ (e : l ≡ list).
+    let xs = list_at old list in
+    let last : length (xs ++ watch ∷ []) - 1 ≡ length xs = omega (arith, length-append xs (watch ∷ [])) in
+    let back : list_at new list ≡ xs = taken.here ∙ ap (λ (ws : List Watch). swap_remove ws (length xs) watch) pushed.here ∙
+    ap (λ n. take n (set (xs ++ watch ∷ []) (length xs) (get_or (xs ++ watch ∷ []) n watch))) last ∙
+    ap (λ (ws : List Watch). take (length xs) ws) (set-append_seam xs watch [] _) ∙ take-append_seam xs _ in
+    subst (λ k. list_at new k ≡ list_at old k) (sym e) back)
+    (λ (ne : l ≢ list). taken.others l ne ∙ pushed.others l ne)
+    (cases_eq l list)
+
 -- another blocker
 pub same-clauses : (old new : List (List Watch)) (list place : ℕ) (was : Watch) (blocker : Literal) → slice_get (list_at old list) place ≡ Some was →
     PutsList old new list (set (list_at old list) place (with_blocker was blocker)) → SameClauses old new
@@ -549,43 +578,12 @@ fit-move table old mid new from to place d watch differ pushed taken inside fits
     (fit-push table old mid (list_number to) watch pushed fits has)
 
 -- a clause that was added with its two literals
-pub pairs-two : (old mid new last : List WatchedPair) (number : ℕ) (one two goal : WatchedPair) → number ≡ length old → mid ≡ old ++ unwatched ∷ [] →
-    new ≡ set mid number one → last ≡ set new number two → two ≡ goal → last ≡ old ++ goal ∷ []
-pairs-two old mid new last number one two goal is added first second same-goal =
-    second
-    ∙ ap (λ (ps : List WatchedPair). set ps number two) (first ∙ ap (λ (ps : List WatchedPair). set ps number one) added)
-    ∙ subst (λ n. set (set (old ++ unwatched ∷ []) n one) n two ≡ old ++ two ∷ []) (sym is)
-    (ap (λ (ps : List WatchedPair). set ps (length old) two) (set-append_seam old unwatched [] one) ∙ set-append_seam old one [] two)
-    ∙ ap (λ (p : WatchedPair). old ++ p ∷ []) same-goal
-
--- a clause that first watches one literal, and then two
-pub gains-first : (pairs new : List WatchedPair) (number : ℕ) (first one other : Literal) → new ≡ pairs ++ unwatched ∷ [] → number ≡ length pairs →
-    one ≡ first → other ≡ first → (list : ℕ) →
-    pair_count (record { first = Some one; second = None }) list ≡ pair_count (pair_at new number) list + same (list_number other) list
-gains-first pairs new number first one other added last same-one same-other list =
-    let none : pair_at new number ≡ unwatched = ap (λ (ps : List WatchedPair). pair_at ps number) added ∙ ap (λ n. pair_at (pairs ++ unwatched ∷ []) n) last ∙
-    pair_at-last pairs unwatched in
-    pair-first one list ∙ ap (λ (p : WatchedPair). pair_count p list + same (list_number one) list) (sym none) ∙
-    ap (λ (l : Literal). pair_count (pair_at new number) list + same (list_number l) list) (same-one ∙ sym same-other)
-
-pub gains-second : (mid new : List WatchedPair) (number : ℕ) (first second one other third : Literal) → number < length mid →
-    new ≡ set mid number (record { first = Some one; second = None }) → one ≡ first → other ≡ first → third ≡ second → (list : ℕ) →
-    pair_count (watched_pair other third) list ≡ pair_count (pair_at new number) list + same (list_number second) list
-gains-second mid new number first second one other third inside written same-one same-other same-third list =
-    let was : pair_at new number ≡ record { first = Some one; second = None } = ap (λ (ps : List WatchedPair). pair_at ps number) written ∙
-    get_or-set_same mid number _ unwatched inside in
-    pair-second other third list
-    ∙ ap (λ (l : Literal). pair_count (record { first = Some l; second = None }) list + same (list_number third) list) (same-other ∙ sym same-one)
-    ∙ ap (λ (p : WatchedPair). pair_count p list + same (list_number third) list) (sym was)
-    ∙ ap (λ (l : Literal). pair_count (pair_at new number) list + same (list_number l) list) same-third
-
-pub contains-same : (table : List (List Literal)) (number other : ℕ) (literal copy : Literal) → other ≡ number → copy ≡ literal →
-    Contains (clause_at table number) literal → Contains (clause_at table other) copy
-contains-same table number other literal copy named is contains =
-    subst (λ n. Contains (clause_at table n) copy) (sym named) (subst (λ (l : Literal). Contains (clause_at table number) l) (sym is) contains)
-
-pub added-inside : (pairs new : List WatchedPair) (pair : WatchedPair) (number : ℕ) → new ≡ pairs ++ pair ∷ [] → number ≡ length pairs → number < length new
-added-inside pairs new pair number added last = omega (arith, last, ap (λ (ps : List WatchedPair). length ps) added, length-append pairs (pair ∷ []))
+pub fit-both : (table : List (List Literal)) (lists new : List (List Watch)) (pair : WatchedPair) (number : ℕ) (is_binary : Bool) →
+    PutsBoth lists new pair number is_binary → Contains (clause_at table number) pair.first × Contains (clause_at table number) pair.second →
+    (is_binary ≡ true → length (clause_at table number) ≡ 2) → FitClauses table lists → FitClauses table new
+fit-both table lists new pair number is_binary puts has two fits =
+    fit-push table _ _ _ _ puts.second (record { own = has.0; two = two })
+    (fit-push table _ _ _ _ puts.first (record { own = has.1; two = two }) fits)
 
 -- the watch with another start
 abbrev pub with_start : Watch → ℕ → Watch
@@ -594,10 +592,10 @@ with_start watch start = record { number = watch.number; blocker = watch.blocker
 -- a move, step by step: the watch that was read, pushed, removed and written
 pub record IsMove (old mid new : List (List Watch)) (before : List WatchedPair) (from to : Literal) (place : ℕ) (blocker : Literal) (start : ℕ) (read : Watch)
     (pair : WatchedPair) : Type 0 where
-  pub differ : from ≢ to
   pub value : slice_get (list_at old (list_number from)) place ≡ Some read
   pub inside : read.number < length before
   pub watching : IsWatching before read.number from
+  pub free : IsWatching before read.number to → ⊥
   pub pushed : PutsList old mid (list_number to) (list_at old (list_number to) ++ with_start (with_blocker read blocker) start ∷ [])
   pub taken : PutsList mid new (list_number from) (swap_remove (list_at mid (list_number from)) place read)
   pub pair_is : pair ≡ replaced (pair_at before read.number) from to
@@ -607,31 +605,34 @@ module _ (old mid new : List (List Watch)) (before : List WatchedPair) (from to 
   at' : place < length (list_at old (list_number from))
   at' = slice_get_within (list_at old (list_number from)) place read m.value
 
+  differ : from ≢ to
+  differ e = m.free (subst (λ (l : Literal). IsWatching before read.number l) e m.watching)
+
   found : (watch : Watch) → slice_get (list_at old (list_number from)) place ≡ Some watch → read ≡ watch
   found watch is = same_Some read watch (sym m.value ∙ is)
 
   pub move-watched : IsWatched old before → IsWatched new (set before read.number pair)
   move-watched watched =
-      let stays : list_at mid (list_number from) ≡ list_at old (list_number from) = m.pushed.others (list_number from) (list_number-differ from to m.differ) in
-      watched-move old mid new before (list_number from) (list_number to) place read _ pair watched (list_number-differ from to m.differ) m.inside m.pushed
+      let stays : list_at mid (list_number from) ≡ list_at old (list_number from) = m.pushed.others (list_number from) (list_number-differ from to differ) in
+      watched-move old mid new before (list_number from) (list_number to) place read _ pair watched (list_number-differ from to differ) m.inside m.pushed
       (rw stays at m.taken) at'
       (ap (λ (w : Watch). w.number) (sym (get_or_from_slice_get (list_at old (list_number from)) place read read m.value)))
       (λ l. ap (λ (p : WatchedPair). pair_count p l + same (list_number from) l) m.pair_is ∙
-      replaced-count (pair_at before read.number) from to (pair-positive (pair_at before read.number) from m.watching) l)
+      replaced-count (pair_at before read.number) from to m.watching m.free l)
 
   pub move-moves : (watch : Watch) → slice_get (list_at old (list_number from)) place ≡ Some watch →
       MovesWatch old new before (set before read.number pair) from to place watch.number
   move-moves watch is =
       subst (λ n. MovesWatch old new before (set before read.number pair) from to place n) (ap (λ (w : Watch). w.number) (found watch is))
       (subst (λ (p : WatchedPair). MovesWatch old new before (set before read.number p) from to place read.number) (sym m.pair_is)
-      (moves-watch old mid new before from to place read _ m.differ m.inside m.pushed m.taken at'))
+      (moves-watch old mid new before from to place read _ differ m.inside m.pushed m.taken at'))
 
   pub move-fit : (table : List (List Literal)) (watch : Watch) → slice_get (list_at old (list_number from)) place ≡ Some watch →
       Contains (clause_at table watch.number) blocker → FitClauses table old → FitClauses table new
   move-fit table watch is contains has =
       let fits = fits-with table read blocker (fit-at table old (list_number from) place read has m.value)
       (subst (λ n. Contains (clause_at table n) blocker) (sym (ap (λ (w : Watch). w.number) (found watch is))) contains) in
-      fit-move table old mid new from to place read _ m.differ m.pushed m.taken at' (record { own = fits.own; two = fits.two }) has
+      fit-move table old mid new from to place read _ differ m.pushed m.taken at' (record { own = fits.own; two = fits.two }) has
 
 pub kept-same : (old new : List WatchedPair) → new ≡ old → (number : ℕ) → number < length old → pair_at new number ≡ pair_at old number
 kept-same old new same number inside = ap (λ (ps : List WatchedPair). pair_at ps number) same

@@ -1,6 +1,6 @@
 -- Clauses whose literals lie one behind another in one list.
 use Rattle.std.specs.Prelude.{◌≡◌, ℕ, ◌≤◌, List, [], ◌∷◌, slice_range}
-use Rattle.resolver_clause_store.specs.declared.literals.Literal.{Literal}
+use Rattle.resolver_clause_store.specs.Literals.{Literal}
 
 -- the parts of the list between neighbouring places, from the start on
 abbrev pub between : ℕ → List ℕ → List Literal → List (List Literal)

@@ -1,7 +1,8 @@
 -- The disjunctive normal form of a condition: lists of version sets. The condition holds if each version set of some list has a candidate in the set.
-use Rattle.std.specs.Prelude.{◌≡◌, ℕ, zero, suc, ◌+◌, ◌*◌, ◌<◌, List, [], ◌∷◌, ◌++◌, Contains, All, map, reverse}
+use Rattle.std.specs.Prelude.{◌≡◌, ℕ, zero, suc, ◌+◌, ◌*◌, ◌<◌, ◌↔◌, List, [], ◌∷◌, ◌++◌, Contains, All, map, reverse}
 use Rattle.resolver_clause_store.specs.Universe.{Universe}
 use Rattle.resolver_clause_store.specs.Candidates.{matching}
+use Rattle.resolver_clause_store.specs.Conditions.{ConditionHolds}
 use Rattle.resolver_clause_store.specs.declared.ids.VersionSetId.{VersionSetId}
 use Rattle.resolver_clause_store.specs.declared.ids.ConditionId.{ConditionId}
 use Rattle.resolver_clause_store.specs.declared.conditions.Partial.{Partial}
@@ -33,6 +34,10 @@ pub record SomeHolds {N S : Type 0} (u : Universe N S) (Has : S → Type 0) (lis
   pub disjunct : List VersionSetId
   pub listed : Contains lists disjunct
   pub all_taken : All (IsTaken u Has) disjunct
+
+-- the condition holds in just the sets in which some list does
+abbrev pub HoldsAsSome : {N S : Type 0} → Universe N S → ConditionId → List (List VersionSetId) → Type 0
+HoldsAsSome {N} {S} u c lists = (set : List S) → ConditionHolds u (Contains set) c ↔ SomeHolds u (Contains set) lists
 
 -- an unfinished disjunct: the conditions still to be added to it, the next one first, and the version sets that it has
 pub record PartialDisjunct : Type 0 where
@@ -75,3 +80,8 @@ work_left u (p ∷ ps) = pending_work u p.pending + work_left u ps
 pub record IsCloser {N S : Type 0} (u : Universe N S) (after before : List PartialDisjunct) : Type 0 where
   pub same : (lists : List (List VersionSetId)) → AreFinished u after lists → AreFinished u before lists
   pub less : work_left u after < work_left u before
+
+-- the second stack is closer than the first one with the disjunct on top, to which the condition is added next
+abbrev pub IsPut : {N S : Type 0} → Universe N S → ConditionId → Partial → (before after : List Partial) → Type 0
+IsPut u condition p before after = IsCloser u (partial_disjuncts after)
+    (record { pending = condition ∷ reverse p.pending.items; chosen = p.chosen.items } ∷ partial_disjuncts before)

@@ -1,6 +1,6 @@
 -- The requirement that was last found left to decide.
 use Rattle.std.specs.Prelude.{◌≡◌, ◌≢◌, ℕ, ◌<◌, ◌≤◌, true, false, Some, List, length, slice_index_or}
-use Rattle.resolver_clause_store.specs.declared.literals.Literal.{Literal}
+use Rattle.resolver_clause_store.specs.Literals.{Literal}
 use Rattle.resolver_clause_store.specs.declared.clauses.StoredRequirement.{StoredRequirement}
 use Rattle.resolver_clause_store.specs.declared.trail.Slot.{Slot}
 use Rattle.resolver_clause_store.specs.declared.trail.Trail.{Trail}
@@ -12,6 +12,10 @@ use Rattle.resolver_clause_store.specs.TrailView.{literal_value, slot_of, variab
 -- no variable at the places of the trail from this one up to but not including another is true
 pub record NoneIsTrueFrom (trail : Trail) (from to : ℕ) : Type 0 where
   pub each : (place : ℕ) → from ≤ place → place < to → literal_value trail (record { variable = variable_at trail place; positive = true }) ≢ Some true
+
+-- each literal from a place on is false
+abbrev pub AreFalseFrom : Trail → List Literal → ℕ → Type 0
+AreFalseFrom trail clause from = (k : ℕ) (d : Literal) → from ≤ k → k < length clause → literal_value trail (slice_index_or clause k d) ≡ Some false
 
 -- the first literal from a place on that is not false
 pub record IsFirstNotFalse (trail : Trail) (clause : List Literal) (from place : ℕ) : Type 0 where

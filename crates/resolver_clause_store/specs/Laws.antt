@@ -1,5 +1,6 @@
 -- The laws of a provider.
-use Rattle.std.specs.Prelude.{◌≡◌, ◌<◌, Bool, true, List, Contains, All, IfSome, IsPermutation}
+use Rattle.std.specs.Prelude.{◌≡◌, ◌<◌, Bool, true, List, Contains, All, IfSome, IsPermutation, nat_eq, refl}
+use Rattle.std.proofs.lemmas.Bool.{eqb-true, eq-eqb}
 use Rattle.resolver_clause_store.specs.Lists.{HasNoRepeats, Splits}
 use Rattle.resolver_clause_store.specs.Universe.{Universe, Package}
 use Rattle.resolver_clause_store.specs.declared.ids.VersionSetId.{VersionSetId}
@@ -11,6 +12,10 @@ use Rattle.resolver_clause_store.specs.declared.data.Condition.TheVariants.{Bina
 pub record IsIdentity {X : Type 0} (same : X → X → Bool) : Type 0 where
   pub alone : (a b : X) → same a b ≡ true → a ≡ b
   pub itself : (a : X) → same a a ≡ true
+
+-- as the equality of numbers is
+pub numbers_are_values : IsIdentity nat_eq
+numbers_are_values = record { alone = eqb-true; itself = λ a. eq-eqb a a refl }
 
 -- the laws of an interner's ids
 pub record HasLawfulIds {N S : Type 0} (u : Universe N S) : Type 0 where

@@ -1,6 +1,8 @@
 pub mod Lists
 pub mod Universe
 pub mod Laws
+pub mod Sorting
+pub mod SortingLemmas
 pub mod Texts
 pub mod Candidates
 pub mod SameRequirements
@@ -15,6 +17,7 @@ pub mod Interruptions
 pub mod Filtering
 pub mod Disjuncts
 pub mod Clauses
+pub mod Literals
 pub mod Formula
 pub mod Slots
 pub mod StoredSlots

@@ -1,7 +1,7 @@
 -- What the end of a search over clauses means.
 use Rattle.std.specs.Prelude.{◌≡◌, ◌⊎◌, ◌++◌, ◌∷◌, ◌<◌, ℕ, Bool, true, false, Some, None, List, length, All, Any, Contains}
 use Rattle.std.specs.Bool.{beq}
-use Rattle.resolver_clause_store.specs.declared.literals.Literal.{Literal}
+use Rattle.resolver_clause_store.specs.Literals.{Literal}
 use Rattle.resolver_clause_store.specs.declared.clauses.RequirementClause.{RequirementClause}
 use Rattle.resolver_clause_store.specs.declared.trail.Reason.TheVariants.{Assumed}
 use Rattle.resolver_clause_store.specs.declared.trail.Slot.{Slot}

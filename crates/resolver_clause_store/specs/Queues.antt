@@ -1,13 +1,15 @@
 -- The queue of requirements to decide.
-use Rattle.std.specs.Prelude.{◌≡◌, ℕ, ◌<◌, ◌≤◌, ◌⊎◌, true, false, Some, List, length, Contains, slice_index, slice_index_or}
-use Rattle.resolver_clause_store.specs.declared.literals.Literal.{Literal}
+use Rattle.std.specs.Prelude.{◌≡◌, ℕ, ◌<◌, ◌≤◌, ◌⊎◌, true, false, Some, List, length, Contains, slice_index, slice_index_or, ◌++◌, ◌∷◌, [], All}
+use Rattle.resolver_clause_store.specs.Literals.{Literal}
 use Rattle.resolver_clause_store.specs.declared.clauses.StoredRequirement.{StoredRequirement}
 use Rattle.resolver_clause_store.specs.declared.trail.Slot.{Slot}
 use Rattle.resolver_clause_store.specs.declared.trail.Trail.{Trail}
 use Rattle.resolver_clause_store.specs.Formula.{clause_at}
-use Rattle.resolver_clause_store.specs.TrailView.{length_of, literal_value, slot_of, variable_at}
+use Rattle.resolver_clause_store.specs.Decisions.{IsFirst}
+use Rattle.resolver_clause_store.specs.Outcomes.{IsMet}
+use Rattle.resolver_clause_store.specs.TrailView.{KeepsPlaces, length_of, literal_value, slot_of, variable_at}
 use Rattle.resolver_clause_store.specs.NumberedLists.{list_of}
-use Rattle.resolver_clause_store.specs.LastOpens.{IsLastOpen}
+use Rattle.resolver_clause_store.specs.LastOpens.{IsLastOpen, IsOpenSince}
 use Rattle.resolver_clause_store.specs.declared.last_open.LastOpen.{LastOpen}
 use Rattle.resolver_clause_store.specs.declared.queue.DecideQueue.{DecideQueue}
 
@@ -50,12 +52,41 @@ pub record IsQueued (queue : DecideQueue) (trail : Trail) (table : List (List Li
       (clause_at table (slice_index_or requirements index d).number) index
   pub last : (last : LastOpen) → queue.last ≡ Some last → IsLastOpen last queue.kept trail table requirements
 
--- for every trail and all requirements, the queue still follows the trail and has the requirements
-abbrev pub StaysQueued : DecideQueue → DecideQueue → Type 0
-StaysQueued old new = (trail : Trail) (table : List (List Literal)) (requirements : List StoredRequirement) → IsQueued old trail table requirements →
+-- for all requirements, the queue still follows the trail and has the requirements
+abbrev pub StaysQueuedOn : Trail → DecideQueue → DecideQueue → Type 0
+StaysQueuedOn trail old new = (table : List (List Literal)) (requirements : List StoredRequirement) → IsQueued old trail table requirements →
     IsQueued new trail table requirements
+
+-- the same for every trail
+abbrev pub StaysQueued : DecideQueue → DecideQueue → Type 0
+StaysQueued old new = (trail : Trail) → StaysQueuedOn trail old new
+
+-- the queue has one more requirement, with this index
+abbrev pub QueuesNext : ℕ → DecideQueue → DecideQueue → Type 0
+QueuesNext index old new = (trail : Trail) (table : List (List Literal)) (requirements : List StoredRequirement) (requirement : StoredRequirement) →
+    index ≡ length requirements → IsQueued old trail table requirements → IsQueued new trail table (requirements ++ requirement ∷ [])
+
+-- the queue follows every trail that keeps this many of the places that were followed
+abbrev pub FollowsCut : ℕ → DecideQueue → DecideQueue → Type 0
+FollowsCut count old new = (before after : Trail) (table : List (List Literal)) (requirements : List StoredRequirement) →
+    KeepsPlaces before after count → IsQueued old before table requirements → IsQueued new after table requirements
+
+-- if the requirement with this index was the last one found left to decide, its clause has been open since
+abbrev pub IsOpenIfLast : DecideQueue → Trail → List Literal → ℕ → Type 0
+IsOpenIfLast queue trail clause index = (last : LastOpen) → queue.last ≡ Some last → last.requirement ≡ index →
+    IsOpenSince trail clause last.first last.count
+
+-- each requirement is met
+abbrev pub AllMet : Trail → List (List Literal) → List StoredRequirement → Type 0
+AllMet trail table requirements = All (λ (requirement : StoredRequirement). IsMet trail (clause_at table requirement.number)) requirements
 
 -- the whole trail was followed
 pub record IsFollowed (queue : DecideQueue) (trail : Trail) : Type 0 where
   pub all : queue.kept ≡ length_of trail
   pub none_else : length queue.followed.items ≡ queue.kept
+
+-- where this is the first candidate of the requirement with this index, and the whole trail was followed, the requirements stay queued
+abbrev pub StaysQueuedAt : Trail → (index first : ℕ) → DecideQueue → DecideQueue → Type 0
+StaysQueuedAt trail index first old new = (table : List (List Literal)) (requirements : List StoredRequirement) (d : StoredRequirement) →
+    index < length requirements → IsFirst trail (clause_at table (slice_index_or requirements index d).number) first → IsFollowed old trail →
+    IsQueued old trail table requirements → IsQueued new trail table requirements

@@ -28,6 +28,10 @@ kept_at it number = (kept_in it number).learnt
 abbrev pub activity_in : Scores → Activity
 activity_in it = it.activity
 
+-- what is left of a score after one learnt clause, by these parameters
+abbrev pub decayed_in : Scores → ℕ → ℕ
+decayed_in it score = after_decay it.activity.decay score
+
 -- the score of a package after this many learnt clauses
 abbrev pub score_in : Scores → ℕ → ℕ → ℕ
 score_in it number learnt = after_decays it.activity.decay (learnt - (kept_score it.scores.items number).learnt) (kept_score it.scores.items number).value

@@ -1,6 +1,6 @@
 -- Clauses that leave no literal to set.
 use Rattle.std.specs.Prelude.{◌≡◌, ◌≢◌, ℕ, ◌<◌, ◌⊎◌, None, List, length, Contains}
-use Rattle.resolver_clause_store.specs.declared.literals.Literal.{Literal}
+use Rattle.resolver_clause_store.specs.Literals.{Literal}
 use Rattle.resolver_clause_store.specs.declared.trail.Trail.{Trail}
 use Rattle.resolver_clause_store.specs.Formula.{clause_at}
 use Rattle.resolver_clause_store.specs.TrailView.{literal_value}

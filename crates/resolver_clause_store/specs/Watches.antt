@@ -1,16 +1,11 @@
 -- The clauses that watch each literal.
-use Rattle.std.specs.Prelude.{◌≡◌, ◌≢◌, ◌⊎◌, ℕ, ◌+◌, ◌*◌, ◌<◌, ◌==◌, Bool, true, false, Option, Some, None, List, [], length, All, Contains, slice_get}
+use Rattle.std.specs.Prelude.{◌≡◌, ◌≢◌, ◌⊎◌, ℕ, ◌+◌, ◌<◌, ◌==◌, ◌++◌, ◌∷◌, Bool, true, false, Some, List, [], length, All, Contains, slice_get}
 use Rattle.std.specs.Prelude.{slice_index_or, count_by, if◌then◌else◌}
-use Rattle.std.specs.Bool.{beq}
-use Rattle.std.specs.Option.{option_map, option_map_or}
-use Rattle.resolver_clause_store.specs.declared.literals.Literal.{Literal}
+use Rattle.resolver_clause_store.specs.Literals.{Literal, is_literal, list_number}
+use Rattle.resolver_clause_store.specs.NumberedLists.{PutsList}
 use Rattle.resolver_clause_store.specs.Formula.{clause_at}
 use Rattle.resolver_clause_store.specs.declared.watches.Watch.{Watch}
 use Rattle.resolver_clause_store.specs.declared.pairs.WatchedPair.{WatchedPair}
-
--- the number of a literal's list
-abbrev pub list_number : Literal → ℕ
-list_number literal = 2 * literal.variable + (if literal.positive then 1 else 0)
 
 -- the content of a list
 abbrev pub list_at : List (List Watch) → ℕ → List Watch
@@ -24,34 +19,31 @@ no_watch = record { number = 0; blocker = record { variable = 0; positive = fals
 abbrev pub watch_at : List Watch → ℕ → Watch
 watch_at list place = slice_index_or list place no_watch
 
+-- a new watch of a clause
+abbrev pub new_watch : ℕ → Literal → Bool → Watch
+new_watch number blocker is_binary = record { number = number; blocker = blocker; is_binary = is_binary; start = 0 }
+
 -- the watch with another blocker
 abbrev pub with_blocker : Watch → Literal → Watch
 with_blocker watch blocker =
     record { number = watch.number; blocker = blocker; is_binary = watch.is_binary; start = watch.start }
 
--- a clause that watches nothing
-abbrev pub unwatched : WatchedPair
-unwatched = record { first = None; second = None }
+-- a clause with this pair watches nothing
+abbrev pub WatchesNothing : WatchedPair → Type 0
+WatchesNothing pair = pair.first ≡ pair.second
 
--- a clause that watches these two literals
-abbrev pub watched_pair : Literal → Literal → WatchedPair
-watched_pair first second = record { first = Some first; second = Some second }
+-- the pair of a clause that watches nothing
+abbrev pub unwatched : WatchedPair
+unwatched = record { first = no_watch.blocker; second = no_watch.blocker }
 
 -- the literals that a clause watches
 abbrev pub pair_at : List WatchedPair → ℕ → WatchedPair
 pair_at pairs number = slice_index_or pairs number unwatched
 
--- whether two literals are the same
-abbrev pub is_literal : Literal → Literal → Bool
-is_literal one other = if one.variable == other.variable then beq one.positive other.positive else false
-
--- whether there is a literal, and it is this one
-abbrev pub is_watched : Option Literal → Literal → Bool
-is_watched watched literal = option_map_or (λ (one : Literal). is_literal one literal) watched false
-
 -- the pair with its first literal replaced if it is `from`, and otherwise its second one
 abbrev pub replaced : WatchedPair → Literal → Literal → WatchedPair
-replaced pair from to = if is_watched pair.first from then record { first = Some to; second = pair.second } else record { first = pair.first; second = Some to }
+replaced pair from to =
+    if is_literal pair.first from then record { first = to; second = pair.second } else record { first = pair.first; second = to }
 
 -- the number of times that a clause is in a list
 unfoldable pub entry_count : List (List Watch) → ℕ → ℕ → ℕ
@@ -61,21 +53,23 @@ entry_count lists list number = count_by (λ (watch : Watch). watch.number == nu
 unfoldable pub same : ℕ → ℕ → ℕ
 same a b = if a == b then 1 else 0
 
--- 1 if there is a literal and this is its list, and otherwise 0
-unfoldable pub stands_in : Option Literal → ℕ → ℕ
-stands_in watched list = option_map_or (λ (literal : Literal). same (list_number literal) list) watched 0
-
 -- the number of times that the clause of a pair has to be in a list
 unfoldable pub pair_count : WatchedPair → ℕ → ℕ
-pair_count pair list = stands_in pair.first list + stands_in pair.second list
+pair_count pair list =
+    if is_literal pair.first pair.second then 0 else same (list_number pair.first) list + same (list_number pair.second) list
 
 -- each clause is in the lists of the literals that it watches, once for each, and in no other list
 abbrev pub IsWatched : List (List Watch) → List WatchedPair → Type 0
 IsWatched lists pairs = (list number : ℕ) → entry_count lists list number ≡ pair_count (pair_at pairs number) list
 
+-- the pair has two different literals, and this is one of them
+pub record HasLiteral (pair : WatchedPair) (literal : Literal) : Type 0 where
+  pub differ : pair.first ≢ pair.second
+  pub is : (pair.first ≡ literal) ⊎ (pair.second ≡ literal)
+
 -- the clause watches the literal
 abbrev pub IsWatching : List WatchedPair → ℕ → Literal → Type 0
-IsWatching pairs number literal = ((pair_at pairs number).first ≡ Some literal) ⊎ ((pair_at pairs number).second ≡ Some literal)
+IsWatching pairs number literal = HasLiteral (pair_at pairs number) literal
 
 -- the blocker is a literal of the clause, and a clause that is called binary has two literals
 pub record FitsClause (table : List (List Literal)) (watch : Watch) : Type 0 where
@@ -88,11 +82,15 @@ FitClauses table lists = (list : ℕ) → All (λ (watch : Watch). FitsClause ta
 
 -- the clause watches these two literals
 abbrev pub IsPair : WatchedPair → Literal → Literal → Type 0
-IsPair pair one other = (pair ≡ watched_pair one other) ⊎ (pair ≡ watched_pair other one)
+IsPair pair one other = (pair ≡ record { first = one; second = other }) ⊎ (pair ≡ record { first = other; second = one })
 
--- the literals that a clause watches, given two literals or none
-abbrev pub pair_from : Option (Literal × Literal) → WatchedPair
-pair_from pair = record { first = option_map (λ (two : Literal × Literal). two.0) pair; second = option_map (λ (two : Literal × Literal). two.1) pair }
+-- the watches of a clause, with each other's literals as blockers, were put into the lists of its two literals
+pub record PutsBoth (old new : List (List Watch)) (pair : WatchedPair) (number : ℕ) (is_binary : Bool) : Type 0 where
+  pub between : List (List Watch)
+  pub first : PutsList old between (list_number pair.first)
+      (list_at old (list_number pair.first) ++ new_watch number pair.second is_binary ∷ [])
+  pub second : PutsList between new (list_number pair.second)
+      (list_at between (list_number pair.second) ++ new_watch number pair.first is_binary ∷ [])
 
 -- the lists have the same clauses at the same places
 pub record SameClauses (old new : List (List Watch)) : Type 0 where

@@ -1,10 +1,9 @@
 -- The lists of watches, as contracts see them.
 use Rattle.std.specs.Prelude.{◌<◌, List, length}
-use Rattle.resolver_clause_store.specs.declared.literals.Literal.{Literal}
+use Rattle.resolver_clause_store.specs.Literals.{Literal, list_number}
 use Rattle.resolver_clause_store.specs.declared.watches.Watch.{Watch}
 use Rattle.resolver_clause_store.specs.declared.pairs.WatchedPair.{WatchedPair}
 use Rattle.resolver_clause_store.specs.declared.watches.Watches.{Watches}
-use Rattle.resolver_clause_store.specs.Watches.{list_number}
 
 -- the fields of the struct
 abbrev pub lists_of : Watches → List (List Watch)

@@ -31,7 +31,7 @@ pub struct StoredRequirement {
 
 /// Clauses by number. In contracts, they are the list of the clauses' literals.
 ///
-/// The literals lie one behind another in one list, so a clause takes five bytes for each literal and four for itself.
+/// The literals lie one behind another in one list, so a clause takes four bytes for each literal and four for itself.
 #[derive(Drop)]
 pub struct Clauses {
     literals: Vec<Literal>,
@@ -41,7 +41,7 @@ pub struct Clauses {
 
 impl Model for Clauses {
     ghost use Rattle.std.specs.Prelude.{List, length};
-    ghost use Rattle.resolver_clause_store.specs.declared.literals.Literal.{Literal};
+    ghost use Rattle.resolver_clause_store.specs.Literals.{Literal};
     ghost use Rattle.resolver_clause_store.specs.Clauses.{AreEnds, between};
 
     ghost Value = { List (List Literal) };

@@ -1,8 +1,7 @@
 //! Conditions in disjunctive normal form.
 
-ghost use Rattle.std.specs.Prelude.{◌≡◌, ◌↔◌, ◌∷◌, Contains, IfErr, IfOk, List, OnOk, map, reverse};
-ghost use Rattle.resolver_clause_store.specs.Conditions.{ConditionHolds};
-ghost use Rattle.resolver_clause_store.specs.Disjuncts.{IsCloser, IsDisjunctive, SomeHolds, partial_disjuncts};
+ghost use Rattle.std.specs.Prelude.{◌≡◌, IfErr, IfOk, List, OnOk, map};
+ghost use Rattle.resolver_clause_store.specs.Disjuncts.{HoldsAsSome, IsDisjunctive, IsPut};
 ghost use Rattle.resolver_clause_store.specs.Universe.{Universe};
 ghost use Rattle.resolver_clause_store.specs.declared.ids.ConditionId.{ConditionId};
 ghost use Rattle.resolver_clause_store.specs.declared.ids.VersionSetId.{VersionSetId};
@@ -28,8 +27,7 @@ fn put<I: Interner>(
     mut partial: Partial,
     condition: ConditionId,
 ) -> Result<(), Exhausted>
-    ensures closer { OnOk result (IsCloser (I.universe interner.now) (partial_disjuncts stack.new.items)
-        (record { pending = condition ∷ reverse partial.pending.items; chosen = partial.chosen.items } ∷ partial_disjuncts stack.old.items)) }
+    ensures closer { OnOk result (IsPut (I.universe interner.now) condition partial stack.old.items stack.new.items) }
     ensures memory { IfErr result (λ e. e ≡ Exhausted.Memory) }
 {
     match interner.resolve_condition(condition) {
@@ -88,6 +86,5 @@ pub fn convert_conditions_to_dnf<I: Interner>(
 }
 
 pub fn a_condition_holds_where_a_disjunct_does<N, S>()
-    ensures { (u : Universe N S) (set : List S) (c : ConditionId) (lists : List (List VersionSetId)) →
-        IsDisjunctive u c lists → (ConditionHolds u (Contains set) c ↔ SomeHolds u (Contains set) lists) }
+    ensures { (u : Universe N S) (c : ConditionId) (lists : List (List VersionSetId)) → IsDisjunctive u c lists → HoldsAsSome u c lists }
 {}

@@ -1,6 +1,6 @@
 //! What variables stand for, and what clauses state.
 
-ghost use Rattle.std.specs.Prelude.{◌≡◌, [], IfOk};
+ghost use Rattle.std.specs.Prelude.{◌≡◌, IfOk};
 
 use crate::data::{By, Requirement};
 use crate::ids::{StringId, VersionSetId};
@@ -23,50 +23,44 @@ pub enum Origin<N, S> {
 }
 
 /// A disjunct of a condition: version sets that all have to be met. In contracts, it is the list of them.
+///
+/// Few requirements have a condition, so the list of the others takes eight bytes.
 #[derive(Drop)]
 pub struct Disjunct {
-    version_sets: Vec<VersionSetId>,
+    version_sets: Option<Box<Vec<VersionSetId>>>,
 }
 
 impl Model for Disjunct {
-    ghost use Rattle.std.specs.Prelude.{List};
+    ghost use Rattle.std.specs.Prelude.{List, [], Vec};
+    ghost use Rattle.std.specs.Option.{option_map_or};
+    ghost use Rattle.std.specs.declared.alloc.Global.{Global};
     ghost use Rattle.resolver_clause_store.specs.declared.ids.VersionSetId.{VersionSetId as Id};
 
     ghost Value = { List Id };
 
-    ghost view = { λ d. d.version_sets.items };
+    ghost view = { λ d. option_map_or (λ b. b.value.items) d.version_sets [] };
 }
 
 impl Disjunct {
     /// Returns the disjunct of these version sets.
-    pub fn new(version_sets: Vec<VersionSetId>) -> Self
-        ensures { result ≡ version_sets.items }
+    pub fn new(alloc: Global, version_sets: Vec<VersionSetId>) -> Result<Self, AllocError>
+        ensures { IfOk result (λ disjunct. disjunct ≡ version_sets.items) }
     {
-        Disjunct { version_sets }
-    }
-
-    /// Returns the disjunct without version sets, which is always met.
-    pub fn empty(alloc: Global) -> Self
-        ensures { result ≡ [] }
-    {
-        Disjunct {
-            version_sets: Vec::new(alloc),
+        if version_sets.is_empty() {
+            return Ok(Disjunct { version_sets: None });
         }
+        let version_sets = Some(Box::new(alloc, version_sets)?);
+        Ok(Disjunct { version_sets })
     }
 
     /// Returns the version sets.
     pub fn as_slice(&self) -> &[VersionSetId]
         ensures { result.now ≡ self.now }
     {
-        self.version_sets.as_slice()
-    }
-
-    /// Returns another disjunct of the same version sets.
-    pub fn copy(&self, alloc: Global) -> Result<Self, AllocError>
-        ensures { IfOk result (λ copy. copy ≡ self.now) }
-    {
-        let version_sets = Vec::from_slice(alloc, &self.version_sets)?;
-        Ok(Disjunct { version_sets })
+        match &self.version_sets {
+            Some(version_sets) => version_sets.as_slice(),
+            None => &[],
+        }
     }
 }
 

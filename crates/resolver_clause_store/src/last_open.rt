@@ -1,11 +1,11 @@
 //! The requirement that was last found left to decide.
 
-ghost use Rattle.std.specs.Prelude.{◌<◌, ◌≡◌, ◌≤◌, ℕ, IfSome, MatchBool, MatchOption, Some, false, length, slice_index_or};
+ghost use Rattle.std.specs.Prelude.{◌<◌, ◌≡◌, ◌≤◌, IfSome, MatchBool, MatchOption, Some, length};
 ghost use Rattle.resolver_clause_store.specs.Decisions.{IsFirst};
 ghost use Rattle.resolver_clause_store.specs.Formula.{IsBelow};
-ghost use Rattle.resolver_clause_store.specs.LastOpens.{IsFirstNotFalse, IsOpenSince, NoneIsTrueFrom};
+ghost use Rattle.resolver_clause_store.specs.LastOpens.{IsFirstNotFalse, IsOpenSince, NoneIsTrueFrom, AreFalseFrom};
 ghost use Rattle.resolver_clause_store.specs.TrailView.{length_of, literal_value, variable_count};
-ghost use Rattle.resolver_clause_store.specs.declared.literals.Literal.{Literal};
+ghost use Rattle.resolver_clause_store.specs.Literals.{Literal};
 
 use crate::literals::Literal;
 use crate::trail::Trail;
@@ -44,10 +44,7 @@ fn none_is_true_from(trail: &Trail, from: usize) -> bool
 {
     'places: for place in from..trail.len() {
         let variable = trail.variable_at(place);
-        if trail.is_true(Literal {
-            variable,
-            positive: true,
-        }) {
+        if trail.is_true(Literal::new(variable, true)) {
             return false;
         }
     }
@@ -57,8 +54,7 @@ fn none_is_true_from(trail: &Trail, from: usize) -> bool
 /// Returns the place of the first literal from a place on that is not false.
 pub fn first_not_false(trail: &Trail, clause: &[Literal], from: usize) -> Option<usize>
     requires { IsBelow (variable_count trail.now) clause.now }
-    ensures { MatchOption result ((k : ℕ) (d : Literal) → from ≤ k → k < length clause.now → literal_value trail.now (slice_index_or clause.now k d) ≡ Some false)
-        (IsFirstNotFalse trail.now clause.now from) }
+    ensures { MatchOption result (AreFalseFrom trail.now clause.now from) (IsFirstNotFalse trail.now clause.now from) }
 {
     'places: for place in from..clause.len() {
         if !trail.is_false(clause[place]) {

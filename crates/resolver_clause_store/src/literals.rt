@@ -1,31 +1,30 @@
 //! Variables and literals.
 
-ghost use Rattle.std.specs.Prelude.{◌≡◌, ◌<◌, ℕ, ◌==◌, length, get_or};
-ghost use Rattle.std.specs.Int.{w32, from_le_bytes, to_le_bytes};
+ghost use Rattle.std.specs.Prelude.{◌≡◌, ◌<◌, ◌==◌, ◌^◌};
+ghost use Rattle.resolver_clause_store.specs.Literals.{is_literal, list_number};
 ghost use Rattle.std.proofs.Common.{rules};
-ghost use Rattle.std.proofs.lemmas.Nat.{le_bytes_4};
 ghost use Rattle.std.specs.Cmp.Rules.{comparing};
 
 use std::marker::Model;
 
-/// The number of a variable.
-///
-/// Its four bytes need no alignment, so a literal takes five.
+/// The number of a variable, which is below 2147483648.
 #[derive(Clone, Copy)]
 pub struct Variable {
-    bytes: [u8; 4],
+    number: u32,
 }
 
 impl Model for Variable {
+    ghost use Rattle.std.specs.Prelude.{ℕ, ◌<◌, ◌^◌};
+
     ghost Value = { ℕ };
 
-    ghost view = { λ v. from_le_bytes w32 v.bytes };
+    ghost view = { λ v. v.number };
 
-    ghost invariant = { λ v. (length v.bytes ≡ 4) × ((i : ℕ) → get_or v.bytes i 0 < 256) };
+    ghost invariant = { λ v. v.number < 2 ^ 31 };
 
-    ghost inverse = { λ n. record { bytes = to_le_bytes w32 n } };
+    ghost inverse = { λ n. record { number = n } };
 
-    ghost inverse_ok = { λ v h i. record { bytes = le_bytes_4 v.bytes (from_le_bytes w32 v.bytes) h.0 h.1 (λ _. from_le_bytes w32 v.bytes) i } };
+    ghost inverse_ok = { λ v h i. v };
 }
 
 impl PartialEq for Variable {
@@ -34,7 +33,7 @@ impl PartialEq for Variable {
     ghost laws = { Prim.search (comparing, rules) };
 
     fn eq(&self, other: &Variable) -> bool {
-        self.number() == other.number()
+        self.number == other.number
     }
 }
 
@@ -44,33 +43,87 @@ impl Eq for Variable {
 
 impl Variable {
     /// Returns the variable with this number.
-    pub fn new(index: u32) -> Self
-        ensures { result ≡ index }
+    pub fn new(number: u32) -> Self
+        requires { number < 2 ^ 31 }
+        ensures { result ≡ number }
     {
-        Variable {
-            bytes: index.to_le_bytes(),
-        }
-    }
-
-    /// Returns the variable's number.
-    fn number(self) -> u32
-        ensures { result ≡ self }
-    {
-        u32::from_le_bytes(self.bytes)
+        Variable { number }
     }
 
     /// Returns the variable's number, as an index into a table of the variables.
     pub fn index(self) -> usize
         ensures { result ≡ self }
     {
-        self.number() as usize
+        self.number as usize
     }
 }
 
 /// A variable, or its negation.
-#[derive(Clone, Copy, PartialEq, Eq)]
+///
+/// Its number is twice that of the variable, and one more if it is the variable itself.
+#[derive(Clone, Copy)]
 pub struct Literal {
-    pub variable: Variable,
-    /// Whether the literal is the variable itself.
-    pub positive: bool,
+    number: u32,
+}
+
+impl Model for Literal {
+    ghost use Rattle.resolver_clause_store.specs.Literals.{Literal, list_number, literal_at, literal_code, number_back};
+
+    ghost Value = { Literal };
+
+    ghost coded = { literal_code };
+
+    ghost view = { λ l. literal_at l.number };
+
+    ghost inverse = { λ literal. record { number = list_number literal } };
+
+    ghost inverse_ok = { λ l h i. record { number = number_back l.number i } };
+}
+
+impl PartialEq for Literal {
+    ghost eq = { is_literal };
+
+    ghost laws = { Prim.search (comparing, rules) };
+
+    fn eq(&self, other: &Literal) -> bool {
+        self.number == other.number
+    }
+}
+
+impl Eq for Literal {
+    ghost laws = { Prim.search (comparing, rules) };
+}
+
+impl Literal {
+    /// Returns the literal of a variable.
+    pub fn new(variable: Variable, positive: bool) -> Self
+        ensures { result ≡ record { variable = variable; positive = positive } }
+    {
+        Literal {
+            number: 2 * variable.number + u32::from(positive),
+        }
+    }
+
+    /// Returns the literal's variable.
+    pub fn variable(self) -> Variable
+        ensures { result ≡ self.variable }
+    {
+        Variable {
+            number: self.number / 2,
+        }
+    }
+
+    /// Returns whether the literal is the variable itself.
+    pub fn is_positive(self) -> bool
+        ensures { result ≡ self.positive }
+    {
+        self.number % 2 == 1
+    }
+
+    /// Returns the number of the literal's list.
+    pub fn list_number(self) -> usize
+        ensures { result ≡ list_number self }
+    {
+        self.number as usize
+    }
 }

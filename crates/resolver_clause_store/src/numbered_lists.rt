@@ -2,7 +2,7 @@
 
 ghost use Rattle.std.specs.Prelude.{◌≡◌, ◌≢◌, ◌<◌, ◌≤◌, ◌^◌, ◌++◌, ◌∷◌, [], ℕ, OnErr, OnOk, length, slice_set};
 ghost use Rattle.std.specs.List.{swap_remove};
-ghost use Rattle.resolver_clause_store.specs.NumberedLists.{PutsList, items_of, list_of};
+ghost use Rattle.resolver_clause_store.specs.NumberedLists.{PutsList, items_at, items_of, list_of};
 
 use std::alloc::{AllocError, Global};
 use std::marker::Model;
@@ -44,7 +44,7 @@ fn add_lists<T: Copy>(
 fn push_at<T: Copy>(lists: &mut Vec<Vec<T>>, number: usize, item: T) -> Result<(), AllocError>
     requires { number < length lists.old.items }
     ensures pushed { OnOk result (PutsList (items_of lists.old.items) (items_of lists.new.items) number
-        (list_of (items_of lists.old.items) number ++ item ∷ [])) }
+        (items_at lists.old.items number ++ item ∷ [])) }
     ensures unchanged { OnErr result (items_of lists.new.items ≡ items_of lists.old.items) }
 {
     lists[number].push(item)?;
@@ -54,9 +54,9 @@ fn push_at<T: Copy>(lists: &mut Vec<Vec<T>>, number: usize, item: T) -> Result<(
 /// Removes an item of a list, and puts the last one in its place.
 fn take_at<T: Copy>(lists: &mut Vec<Vec<T>>, number: usize, place: usize)
     requires number { number < length lists.old.items }
-    requires place { place < length (list_of (items_of lists.old.items) number) }
+    requires place { place < length (items_at lists.old.items number) }
     ensures { (any : T) → PutsList (items_of lists.old.items) (items_of lists.new.items) number
-        (swap_remove (list_of (items_of lists.old.items) number) place any) }
+        (swap_remove (items_at lists.old.items number) place any) }
 {
     let _taken = lists[number].swap_remove(place);
 }
@@ -64,9 +64,9 @@ fn take_at<T: Copy>(lists: &mut Vec<Vec<T>>, number: usize, place: usize)
 /// Replaces an item of a list.
 fn set_at<T: Copy>(lists: &mut Vec<Vec<T>>, number: usize, place: usize, item: T)
     requires number { number < length lists.old.items }
-    requires place { place < length (list_of (items_of lists.old.items) number) }
+    requires place { place < length (items_at lists.old.items number) }
     ensures { PutsList (items_of lists.old.items) (items_of lists.new.items) number
-        (slice_set (list_of (items_of lists.old.items) number) place item) }
+        (slice_set (items_at lists.old.items number) place item) }
 {
     lists[number][place] = item;
 }

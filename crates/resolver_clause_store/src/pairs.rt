@@ -1,57 +1,50 @@
 //! The two literals that each clause watches.
 
-ghost use Rattle.std.specs.Prelude.{◌≡◌, ◌≢◌, Some};
-ghost use Rattle.resolver_clause_store.specs.Watches.{IsPair, is_watched, replaced};
-ghost use Rattle.resolver_clause_store.specs.declared.literals.Literal.{Literal};
+ghost use Rattle.std.specs.Prelude.{◌≡◌, ◌≢◌};
+ghost use Rattle.resolver_clause_store.specs.Literals.{Literal};
+ghost use Rattle.resolver_clause_store.specs.Watches.{IsPair, replaced};
 
-use crate::literals::Literal;
+use crate::literals::{Literal, Variable};
 
-/// The two literals that a clause watches, or none.
+/// The two literals that a clause watches. A clause that watches nothing has the same literal twice.
 #[derive(Clone, Copy, PartialEq, Eq)]
 pub struct WatchedPair {
-    pub first: Option<Literal>,
-    pub second: Option<Literal>,
-}
-
-/// Returns whether a literal is watched, and is this one.
-fn is_watched(watched: &Option<Literal>, literal: &Literal) -> bool
-    ensures { result ≡ is_watched watched.now literal.now }
-{
-    match watched {
-        Some(one) => one == literal,
-        None => false,
-    }
-}
-
-/// Returns the literal that is watched. If there is none, the other one serves.
-fn watched_or(watched: &Option<Literal>, other: &Literal) -> Literal
-    ensures { (literal : Literal) → watched.now ≡ Some literal → result ≡ literal }
-{
-    match watched {
-        Some(literal) => *literal,
-        None => *other,
-    }
+    pub first: Literal,
+    pub second: Literal,
 }
 
 impl WatchedPair {
+    ghost use Rattle.resolver_clause_store.specs.Watches.{unwatched};
+
+    /// Returns the pair of a clause that watches nothing.
+    pub fn none() -> Self
+        ensures { result ≡ unwatched }
+    {
+        let any = Literal::new(Variable::new(0), false);
+        WatchedPair {
+            first: any,
+            second: any,
+        }
+    }
+
     /// Returns the literal of the pair beside this one.
     pub fn other(&self, literal: &Literal) -> Literal
         ensures { (other : Literal) → literal.now ≢ other → IsPair self.now literal.now other → result ≡ other }
     {
-        if is_watched(&self.first, literal) {
-            return watched_or(&self.second, literal);
+        if self.first == *literal {
+            return self.second;
         }
-        watched_or(&self.first, literal)
+        self.first
     }
 
     /// Replaces a literal of the pair by another.
     pub fn replace(&mut self, from: Literal, to: Literal)
         ensures { self.new ≡ replaced self.old from to }
     {
-        if is_watched(&self.first, &from) {
-            self.first = Some(to);
+        if self.first == from {
+            self.first = to;
             return;
         }
-        self.second = Some(to);
+        self.second = to;
     }
 }

@@ -1,9 +1,9 @@
 //! The traits of a provider, and their laws.
 
-ghost use Rattle.std.specs.Prelude.{◌≡◌, if◌then◌else◌, IfOk, IfErr, OnOk, IfSome};
+ghost use Rattle.std.specs.Prelude.{◌≡◌, IfOk, IfErr, OnOk, IfSome};
 ghost use Rattle.resolver_clause_store.specs.Laws.{HasLawfulIds, HasLawfulPackages, IsIdentity};
 ghost use Rattle.resolver_clause_store.specs.Texts.{Appends};
-ghost use Rattle.resolver_clause_store.specs.Universe.{Universe, needs_of, package_of};
+ghost use Rattle.resolver_clause_store.specs.Universe.{Universe, filtered_of, needs_of, package_of};
 
 use crate::data::{Candidates, Condition, Dependencies, Exhausted};
 use crate::ids::{ConditionId, StringId, VersionSetId, VersionSetUnionId};
@@ -112,9 +112,7 @@ pub trait DependencyProvider: Interner {
         version_set: VersionSetId,
         inverse: bool,
     ) -> Result<Vec<Self::SolvableId>, Exhausted>
-        ensures answer { IfOk result (λ answer. answer.items ≡
-            (if inverse then (Self.universe self.now).others_of candidates.now version_set
-            else (Self.universe self.now).matching_of candidates.now version_set)) }
+        ensures answer { IfOk result (λ answer. answer.items ≡ filtered_of (Self.universe self.now) inverse candidates.now version_set) }
         ensures memory { IfErr result (λ e. e ≡ Exhausted.Memory) };
 
     /// Sorts candidates by preference, the best first. After a refusal the order and content of the list are

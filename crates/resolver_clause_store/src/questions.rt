@@ -1,7 +1,7 @@
 //! Calls to a provider.
 
 ghost use Rattle.std.specs.Prelude.{◌≡◌, IfErr, IfOk, Some};
-ghost use Rattle.resolver_clause_store.specs.Candidates.{favored_first};
+ghost use Rattle.resolver_clause_store.specs.Candidates.{sorted_among};
 ghost use Rattle.resolver_clause_store.specs.Interruptions.{IsInterruption};
 ghost use Rattle.resolver_clause_store.specs.Lists.{moved_to_front};
 ghost use Rattle.resolver_clause_store.specs.Universe.{needs_of, package_of};
@@ -93,8 +93,8 @@ pub(crate) fn sorted_favored_first<D: DependencyProvider>(
     listing: &Candidates<D::SolvableId>,
     version_set: VersionSetId,
 ) -> Result<Vec<D::SolvableId>, Exhausted>
-    ensures value { let u = D.universe provider.now in IfOk result (λ sorted. sorted.items ≡
-        favored_first u listing.now.favored (u.sorted_of (u.matching_of listing.now.candidates.items version_set))) }
+    ensures value { IfOk result (λ sorted.
+        sorted.items ≡ sorted_among (D.universe provider.now) listing.now.candidates.items listing.now.favored version_set) }
     ensures memory { IfErr result (λ e. e ≡ Exhausted.Memory) }
 {
     let mut sorted = provider.filter_candidates(&listing.candidates, version_set, false)?;

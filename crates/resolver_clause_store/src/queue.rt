@@ -1,17 +1,16 @@
 //! The queue of requirements to decide.
 
-ghost use Rattle.std.specs.Prelude.{◌<◌, ◌≡◌, ◌≤◌, ◌+◌, ◌++◌, ◌∷◌, [], All, IfNone, IfOk, IfSome, List, OnOk, Some, Vec, false, length, min, slice_index_or, true};
+ghost use Rattle.std.specs.Prelude.{◌<◌, ◌≡◌, ◌≤◌, ◌+◌, [], All, IfNone, IfOk, IfSome, List, OnOk, Vec, false, length, min, true};
 ghost use Rattle.std.specs.Option.{option_map_or};
 ghost use Rattle.std.specs.declared.alloc.Global.{Global};
 ghost use Rattle.resolver_clause_store.specs.Formula.{AreBelow, IsBelow, clause_at};
 ghost use Rattle.resolver_clause_store.specs.Outcomes.{IsMet};
 ghost use Rattle.resolver_clause_store.specs.TrailView.{KeepsPlaces, length_of, slot_of, variable_count};
-ghost use Rattle.resolver_clause_store.specs.declared.literals.Literal.{Literal};
+ghost use Rattle.resolver_clause_store.specs.Literals.{Literal};
 ghost use Rattle.resolver_clause_store.specs.declared.clauses.StoredRequirement.{StoredRequirement};
 ghost use Rattle.resolver_clause_store.specs.declared.trail.Slot.{Slot};
 ghost use Rattle.resolver_clause_store.specs.declared.trail.Trail.{Trail};
 ghost use Rattle.resolver_clause_store.specs.Decisions.{IsChoice, IsFirst};
-ghost use Rattle.resolver_clause_store.specs.LastOpens.{IsOpenSince};
 ghost use Rattle.resolver_clause_store.specs.Settled.{AllSettled};
 ghost use Rattle.resolver_clause_store.specs.NumberedLists.{list_of};
 
@@ -63,7 +62,8 @@ pub struct DecideQueue {
 }
 
 impl DecideQueue {
-    ghost use Rattle.resolver_clause_store.specs.Queues.{IsFollowed, IsFollowing, IsQueued, StaysQueued};
+    ghost use Rattle.resolver_clause_store.specs.Queues.{AllMet, FollowsCut, IsFollowed, IsFollowing, IsOpenIfLast, IsQueued};
+    ghost use Rattle.resolver_clause_store.specs.Queues.{QueuesNext, StaysQueued, StaysQueuedAt, StaysQueuedOn};
 
     /// Returns a queue without requirements, which has followed no entry.
     pub fn new(alloc: Global, activity: Activity) -> Self
@@ -89,8 +89,7 @@ impl DecideQueue {
         literals: &[Literal],
         ends: &[usize],
     ) -> Result<(), AllocError>
-        ensures { OnOk result ((trail : Trail) (table : List (List Literal)) (requirements : List StoredRequirement) (requirement : StoredRequirement) →
-            index ≡ length requirements → IsQueued self.old trail table requirements → IsQueued self.new trail table (requirements ++ requirement ∷ [])) }
+        ensures { OnOk result (QueuesNext index self.old self.new) }
     {
         let from = self.active.len();
         let number = narrow(index)?;
@@ -123,8 +122,7 @@ impl DecideQueue {
 
     /// Notes that at most the first `count` entries of the trail are unchanged.
     pub fn cut(&mut self, count: usize)
-        ensures { (old new : Trail) (table : List (List Literal)) (requirements : List StoredRequirement) →
-            KeepsPlaces old new (min self.old.kept count) → IsQueued self.old old table requirements → IsQueued self.new new table requirements }
+        ensures { FollowsCut (min self.old.kept count) self.old self.new }
     {
         self.kept = self.kept.min(count);
         self.last = unless_cut(self.last, self.kept);
@@ -161,8 +159,7 @@ impl DecideQueue {
     fn follow_place(&mut self, trail: &Trail) -> Result<(), AllocError>
         requires all { length self.old.followed.items ≡ self.old.kept }
         requires inside { self.old.kept < length_of trail.now }
-        ensures queued { OnOk result ((table : List (List Literal)) (requirements : List StoredRequirement) →
-            IsQueued self.old trail.now table requirements → IsQueued self.new trail.now table requirements) }
+        ensures queued { OnOk result (StaysQueuedOn trail.now self.old self.new) }
         ensures kept { OnOk result (self.new.kept ≡ self.old.kept + 1) }
         ensures all { OnOk result (length self.new.followed.items ≡ self.new.kept) }
     {
@@ -180,8 +177,7 @@ impl DecideQueue {
     /// Follows the whole trail.
     fn follow(&mut self, trail: &Trail) -> Result<(), AllocError>
         requires { IsFollowing self.old trail.now }
-        ensures queued { OnOk result ((table : List (List Literal)) (requirements : List StoredRequirement) →
-            IsQueued self.old trail.now table requirements → IsQueued self.new trail.now table requirements) }
+        ensures queued { OnOk result (StaysQueuedOn trail.now self.old self.new) }
         ensures followed { OnOk result (IsFollowed self.new trail.now) }
     {
         let from = self.active.len();
@@ -197,8 +193,7 @@ impl DecideQueue {
     /// to decide, and is known to be so still.
     fn known_first(&self, trail: &Trail, literals: &[Literal], requirement: u32) -> Option<usize>
         requires { IsBelow (variable_count trail.now) literals.now }
-        ensures { IfSome result (λ first. ((last : LastOpen) → self.now.last ≡ Some last → last.requirement ≡ requirement →
-            IsOpenSince trail.now literals.now last.first last.count) → IsFirst trail.now literals.now first) }
+        ensures { IfSome result (λ first. IsOpenIfLast self.now trail.now literals.now requirement → IsFirst trail.now literals.now first) }
     {
         match &self.last {
             Some(last) => {
@@ -215,9 +210,7 @@ impl DecideQueue {
     fn choose(&mut self, trail: &Trail, requirement: u32, number: u32, first: usize) -> Choice
         ensures choice { (result.number ≡ number) × (result.place ≡ first) }
         ensures followed { IsFollowed self.old trail.now → IsFollowed self.new trail.now }
-        ensures queued { (table : List (List Literal)) (requirements : List StoredRequirement) (d : StoredRequirement) → requirement < length requirements →
-            IsFirst trail.now (clause_at table (slice_index_or requirements requirement d).number) first → IsFollowed self.old trail.now →
-            IsQueued self.old trail.now table requirements → IsQueued self.new trail.now table requirements }
+        ensures queued { StaysQueuedAt trail.now requirement first self.old self.new }
     {
         self.last = Some(LastOpen {
             requirement,
@@ -254,7 +247,7 @@ impl DecideQueue {
         let index = number as usize;
         if index >= requirements.len() {
             self.active.swap_remove(place);
-            self.ranks.leave(self.active.as_slice(), place);
+            self.ranks.leave(number, self.active.as_slice(), place);
             return Ok(None);
         }
         let requirement = &requirements[index];
@@ -267,13 +260,13 @@ impl DecideQueue {
             Standing::Inactive(variable) => {
                 self.inactive.add(variable.index(), number)?;
                 self.active.swap_remove(place);
-                self.ranks.leave(self.active.as_slice(), place);
+                self.ranks.leave(number, self.active.as_slice(), place);
                 Ok(None)
             }
             Standing::Met(variable) => {
                 self.met.add(variable.index(), number)?;
                 self.active.swap_remove(place);
-                self.ranks.leave(self.active.as_slice(), place);
+                self.ranks.leave(number, self.active.as_slice(), place);
                 Ok(None)
             }
             Standing::Open { first, count: _ } => {
@@ -294,8 +287,7 @@ impl DecideQueue {
         requires settled { AllSettled trail.now table.now }
         requires inside { All (λ (requirement : StoredRequirement). requirement.number < length table.now) requirements.now }
         requires queued { IsQueued self.old trail.now table.now requirements.now }
-        ensures none { IfOk result (λ answer.
-            IfNone answer (All (λ (requirement : StoredRequirement). IsMet trail.now (clause_at table.now requirement.number)) requirements.now)) }
+        ensures none { IfOk result (λ answer. IfNone answer (AllMet trail.now table.now requirements.now)) }
         ensures some { IfOk result (λ answer. IfSome answer (IsChoice trail.now table.now requirements.now)) }
         ensures queued { OnOk result (IsQueued self.new trail.now table.now requirements.now) }
     {

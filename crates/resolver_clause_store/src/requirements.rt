@@ -3,9 +3,9 @@
 ghost use Rattle.std.specs.Prelude.{◌≡◌, IfErr, IfOk, OnOk};
 ghost use Rattle.indexmap.specs.IndexSet.{insert_all};
 ghost use Rattle.resolver_clause_store.specs.Caches.{IsTrueCache, KeepsAnswers};
-ghost use Rattle.resolver_clause_store.specs.Candidates.{requirement_candidates as candidates_of, sorted_in_order};
+ghost use Rattle.resolver_clause_store.specs.Candidates.{requirement_candidates as candidates_of};
 ghost use Rattle.resolver_clause_store.specs.Interruptions.{IsInterruption};
-ghost use Rattle.resolver_clause_store.specs.Lists.{without_repeats};
+ghost use Rattle.resolver_clause_store.specs.declared.data.Requirement.TheVariants.{Union};
 
 use crate::cache::Cache;
 use crate::data::{Exhausted, Interrupted, Requirement};
@@ -49,8 +49,7 @@ fn union_candidates<D: DependencyProvider>(
     requires { IsTrueCache (D.universe provider.now) cache.old }
     ensures is_true { IsTrueCache (D.universe provider.now) cache.new }
     ensures keeps { KeepsAnswers cache.old cache.new }
-    ensures value { let u = D.universe provider.now in
-        IfOk result (λ candidates. candidates.items ≡ without_repeats u.same_solvable (sorted_in_order u (u.union_members version_set_union))) }
+    ensures value { IfOk result (λ candidates. candidates.items ≡ candidates_of (D.universe provider.now) (Union version_set_union)) }
     ensures refusal { IfErr result (IsInterruption (D.may_cancel provider.now)) }
 {
     let mut candidates = IndexSet::new(cache.allocator());

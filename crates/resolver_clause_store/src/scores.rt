@@ -1,7 +1,7 @@
 //! Scores of packages, which grow with learnt clauses and decay.
 
 ghost use Rattle.std.specs.Prelude.{◌<◌, ◌≡◌, ◌≢◌, ◌≤◌, ◌+◌, ◌-◌, ◌^◌, ℕ, OnOk, length, min, suc};
-ghost use Rattle.resolver_clause_store.specs.Scores.{activity_in, after_decay, after_decays, kept_at, kept_in, kept_score, score_in};
+ghost use Rattle.resolver_clause_store.specs.Scores.{activity_in, after_decay, after_decays, decayed_in, kept_at, kept_in, kept_score, score_in};
 ghost use Rattle.resolver_clause_store.specs.declared.scores.Scores.{Scores as AllScores};
 
 use std::alloc::{AllocError, Global};
@@ -157,6 +157,6 @@ impl Scores {
 ///
 /// The call does nothing: its contract is the law.
 pub fn scores_fade()
-    ensures { (scores : AllScores) (number learnt : ℕ) → (kept_score scores.scores.items number).learnt ≤ learnt →
-        score_in scores number (suc learnt) ≡ after_decay scores.activity.decay (score_in scores number learnt) }
+    ensures { (it : AllScores) (number learnt : ℕ) → kept_at it number ≤ learnt →
+        score_in it number (suc learnt) ≡ decayed_in it (score_in it number learnt) }
 {}

@@ -33,17 +33,18 @@ pub fn standing_of(trail: &Trail, clause: &[Literal]) -> Standing
     let mut first: Option<usize> = None;
     let mut count: usize = 0;
     'literals: for place in 0..clause.len() {
-        let Literal { variable, positive } = clause[place];
-        match trail.value(clause[place]) {
+        let literal = clause[place];
+        let variable = literal.variable();
+        match trail.value(literal) {
             Some(true) => {
-                if positive {
+                if literal.is_positive() {
                     return Standing::Met(variable);
                 }
                 return Standing::Inactive(variable);
             }
             Some(false) => (),
             None => {
-                if !positive {
+                if !literal.is_positive() {
                     return Standing::Inactive(variable);
                 }
                 if first.is_none() {

@@ -125,8 +125,8 @@ impl Trail {
         requires { literal.variable < variable_count self.now }
         ensures { result ≡ literal_value self.now literal }
     {
-        match self.slots.value_at(literal.variable.index()) {
-            Some(value) => Some(value == literal.positive),
+        match self.slots.value_at(literal.variable().index()) {
+            Some(value) => Some(value == literal.is_positive()),
             None => None,
         }
     }
@@ -137,7 +137,7 @@ impl Trail {
         ensures { MatchBool result (literal_value self.now literal ≡ Some true) (literal_value self.now literal ≢ Some true) }
     {
         self.slots
-            .has_value(literal.variable.index(), literal.positive)
+            .has_value(literal.variable().index(), literal.is_positive())
     }
 
     /// Returns whether a literal is false.
@@ -146,7 +146,7 @@ impl Trail {
         ensures { MatchBool result (literal_value self.now literal ≡ Some false) (literal_value self.now literal ≢ Some false) }
     {
         self.slots
-            .has_value(literal.variable.index(), !literal.positive)
+            .has_value(literal.variable().index(), !literal.is_positive())
     }
 
     /// Returns the variable at a place.
@@ -185,11 +185,12 @@ impl Trail {
     {
         let place = narrow(self.order.len())?;
         let level = narrow(level)?;
-        self.order.push(literal.variable)?;
+        let variable = literal.variable();
+        self.order.push(variable)?;
         self.slots.put(
-            literal.variable.index(),
+            variable.index(),
             Slot {
-                value: literal.positive,
+                value: literal.is_positive(),
                 level,
                 place,
                 reason,

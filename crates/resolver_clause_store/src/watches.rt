@@ -2,10 +2,10 @@
 
 ghost use Rattle.std.specs.Prelude.{◌≡◌, ◌≢◌, ℕ, ◌+◌, ◌*◌, ◌<◌, ◌≤◌, ◌++◌, ◌∷◌, [], All, IfSome, List, MatchOption, OnErr, OnOk, Some, Vec, length, slice_get, slice_set};
 ghost use Rattle.resolver_clause_store.specs.NumberedLists.{PutsList};
-ghost use Rattle.resolver_clause_store.specs.declared.literals.Literal.{Literal};
+ghost use Rattle.resolver_clause_store.specs.Literals.{Literal, list_number};
 ghost use Rattle.resolver_clause_store.specs.TrailView.{variable_count};
 ghost use Rattle.resolver_clause_store.specs.Unsatisfied.{IsFirstUnsatisfied, IsNextUnsatisfied};
-ghost use Rattle.resolver_clause_store.specs.Watches.{IsWatched, list_at, list_number, watch_at, with_blocker};
+ghost use Rattle.resolver_clause_store.specs.Watches.{IsWatched, PutsBoth, list_at, watch_at, with_blocker};
 
 use crate::literals::Literal;
 use crate::numbered_lists::NumberedLists;
@@ -17,7 +17,7 @@ use std::alloc::{AllocError, Global};
 
 /// A clause in the list of a literal that it watches.
 ///
-/// The blocker takes five bytes and `start` two, so a watch takes twelve.
+/// The blocker takes four bytes and `start` two, so a watch takes twelve.
 #[derive(Clone, Copy, PartialEq, Eq)]
 pub struct Watch {
     /// The clause's number.
@@ -30,20 +30,20 @@ pub struct Watch {
     pub start: u16,
 }
 
-/// Returns the number of a literal's list.
-pub fn list_number(literal: Literal) -> usize
-    ensures { result ≡ list_number literal }
-{
-    2 * literal.variable.index() + usize::from(literal.positive)
-}
+impl Watch {
+    ghost use Rattle.resolver_clause_store.specs.Watches.{new_watch};
 
-/// Returns a copy of a literal.
-///
-/// The borrow checker does not see that a literal is `Copy`, and would move it.
-pub fn copied(literal: &Literal) -> Literal
-    ensures { result ≡ literal.now }
-{
-    *literal
+    /// Returns a new watch of a clause.
+    fn new(number: u32, blocker: Literal, is_binary: bool) -> Self
+        ensures { result ≡ new_watch number blocker is_binary }
+    {
+        Watch {
+            number,
+            blocker,
+            is_binary,
+            start: 0,
+        }
+    }
 }
 
 /// Returns the first place from this one on whose blocker is not true, or the number of watches.
@@ -73,6 +73,34 @@ fn watch_in(watches: &[Watch], place: usize) -> Option<PlacedWatch>
     }
 }
 
+/// Puts the watches of a clause into the lists of its two literals. An error changes no list.
+fn push_both(
+    lists: &mut NumberedLists<Watch>,
+    pair: WatchedPair,
+    number: u32,
+    is_binary: bool,
+) -> Result<(), AllocError>
+    requires first { list_number pair.first < length lists.old }
+    requires second { list_number pair.second < length lists.old }
+    ensures pushed { OnOk result (PutsBoth lists.old lists.new pair number is_binary) }
+    ensures size { length lists.new ≡ length lists.old }
+    ensures unchanged { OnErr result ((list : ℕ) → list_at lists.new list ≡ list_at lists.old list) }
+{
+    let list = pair.first.list_number();
+    let place = lists.at(list).len();
+    lists.push(list, Watch::new(number, pair.second, is_binary))?;
+    match lists.push(
+        pair.second.list_number(),
+        Watch::new(number, pair.first, is_binary),
+    ) {
+        Ok(()) => Ok(()),
+        Err(error) => {
+            lists.take(list, place);
+            Err(error)
+        }
+    }
+}
+
 /// The clauses that watch each literal, and the two literals that each clause watches.
 ///
 /// A clause is in the lists of its two literals and in no other list. A clause without two different literals watches
@@ -87,8 +115,7 @@ pub struct Watches {
 impl Watches {
     ghost use Rattle.std.specs.Prelude.{Contains, true};
     ghost use Rattle.resolver_clause_store.specs.Formula.{clause_at};
-    ghost use Rattle.resolver_clause_store.specs.Watches.{FitClauses, IsPair, IsWatching, MovesWatch, SameClauses, pair_at, pair_count, pair_from, same, unwatched};
-    ghost use Rattle.resolver_clause_store.specs.Watches.{watched_pair};
+    ghost use Rattle.resolver_clause_store.specs.Watches.{FitClauses, IsPair, IsWatching, MovesWatch, SameClauses, pair_at};
     ghost use Rattle.resolver_clause_store.specs.WatchesView.{HasList, lists_of, pairs_of};
 
     /// Returns watches without literals and clauses.
@@ -146,7 +173,7 @@ impl Watches {
             (λ placed. (placed.place ≡ place) × (slice_get (list_at (lists_of self.now) (list_number literal)) place ≡ Some placed.watch)) }
         ensures watching { IfSome result (λ placed. IsWatching (pairs_of self.now) placed.watch.number literal) }
     {
-        watch_in(self.lists.at(list_number(literal)), place)
+        watch_in(self.lists.at(literal.list_number()), place)
     }
 
     /// Returns the first clause of a literal's list, from this place on, whose blocker is not true.
@@ -164,119 +191,35 @@ impl Watches {
             (IsNextUnsatisfied trail.now (list_at (lists_of self.now) (list_number literal)) from) }
         ensures watching { IfSome result (λ placed. IsWatching (pairs_of self.now) placed.watch.number literal) }
     {
-        let watches = self.lists.at(list_number(literal));
+        let watches = self.lists.at(literal.list_number());
         watch_in(watches, first_unsatisfied(watches, trail, from))
     }
 
-    /// Makes a clause watch one more literal, with `pair` as its new pair.
-    #[inline(always)]
-    fn attach(
-        &mut self,
-        watch: Watch,
-        pair: WatchedPair,
-        literal: Literal,
-    ) -> Result<(), AllocError>
-        requires number { watch.number < length (pairs_of self.old) }
-        requires list { HasList self.old literal }
-        requires gains { (list : ℕ) → pair_count pair list ≡
-            pair_count (pair_at (pairs_of self.old) watch.number) list + same (list_number literal) list }
-        ensures pairs { OnOk result (pairs_of self.new ≡ slice_set (pairs_of self.old) watch.number pair) }
-        ensures lists { OnOk result (PutsList (lists_of self.old) (lists_of self.new) (list_number literal)
-            (list_at (lists_of self.old) (list_number literal) ++ watch ∷ [])) }
-        ensures kept { OnErr result (pairs_of self.new ≡ pairs_of self.old) }
-    {
-        let number = watch.number as usize;
-        self.lists.push(list_number(literal), watch)?;
-        self.pairs[number] = pair;
-        Ok(())
-    }
-
-    /// Appends a clause that watches two literals, which are each other's blockers.
-    fn add_two(
-        &mut self,
-        first: Literal,
-        second: Literal,
-        is_binary: bool,
-    ) -> Result<(), AllocError>
-        requires first { HasList self.old first }
-        requires second { HasList self.old second }
-        ensures pairs { OnOk result (pairs_of self.new ≡ pairs_of self.old ++ watched_pair first second ∷ []) }
-        ensures kept { (number : ℕ) → number < length (pairs_of self.old) → pair_at (pairs_of self.new) number ≡ pair_at (pairs_of self.old) number }
-        ensures size { OnOk result (length (lists_of self.new) ≡ length (lists_of self.old)) }
-        ensures fit { OnOk result
-            ((table : List (List Literal)) → Contains (clause_at table (length (pairs_of self.old))) first →
-            Contains (clause_at table (length (pairs_of self.old))) second →
-            (is_binary ≡ true → length (clause_at table (length (pairs_of self.old))) ≡ 2) →
-            FitClauses table (lists_of self.old) → FitClauses table (lists_of self.new)) }
-    {
-        let number = narrow(self.pairs.len())?;
-        self.add_none()?;
-        let one = WatchedPair {
-            first: Some(copied(&first)),
-            second: None,
-        };
-        let watch = Watch {
-            number,
-            blocker: copied(&second),
-            is_binary,
-            start: 0,
-        };
-        self.attach(watch, one, copied(&first))?;
-        let two = WatchedPair {
-            first: Some(copied(&first)),
-            second: Some(copied(&second)),
-        };
-        let watch = Watch {
-            number,
-            blocker: first,
-            is_binary,
-            start: 0,
-        };
-        self.attach(watch, two, second)?;
-        Ok(())
-    }
-
-    /// Appends a clause that watches nothing.
-    fn add_none(&mut self) -> Result<(), AllocError>
-        ensures pairs { OnOk result (pairs_of self.new ≡ pairs_of self.old ++ unwatched ∷ []) }
-        ensures kept { (number : ℕ) → number < length (pairs_of self.old) → pair_at (pairs_of self.new) number ≡ pair_at (pairs_of self.old) number }
-        ensures lists { lists_of self.new ≡ lists_of self.old }
-    {
-        self.pairs.push(WatchedPair {
-            first: None,
-            second: None,
-        })?;
-        Ok(())
-    }
-
-    /// Appends a clause that watches two literals, which are each other's blockers, or none.
+    /// Appends a clause that watches the two literals of a pair, which are each other's blockers, or nothing.
     ///
     /// `is_binary` says that the clause has two literals.
-    pub fn add(
-        &mut self,
-        pair: Option<(Literal, Literal)>,
-        is_binary: bool,
-    ) -> Result<(), AllocError>
-        requires inside { (first second : Literal) → pair ≡ Some (first, second) → (list_number first < length (lists_of self.old)) ×
-            (list_number second < length (lists_of self.old)) }
-        ensures pairs { OnOk result (pairs_of self.new ≡ pairs_of self.old ++ pair_from pair ∷ []) }
+    pub fn add(&mut self, pair: WatchedPair, is_binary: bool) -> Result<(), AllocError>
+        requires inside { pair.first ≢ pair.second → HasList self.old pair.first × HasList self.old pair.second }
+        ensures pairs { OnOk result (pairs_of self.new ≡ pairs_of self.old ++ pair ∷ []) }
         ensures kept { (number : ℕ) → number < length (pairs_of self.old) → pair_at (pairs_of self.new) number ≡ pair_at (pairs_of self.old) number }
         ensures size { OnOk result (length (lists_of self.new) ≡ length (lists_of self.old)) }
         ensures fit { OnOk result
             ((table : List (List Literal)) →
-            ((first second : Literal) → pair ≡ Some (first, second) → Contains (clause_at table (length (pairs_of self.old))) first ×
-            Contains (clause_at table (length (pairs_of self.old))) second) →
+            (pair.first ≢ pair.second → Contains (clause_at table (length (pairs_of self.old))) pair.first ×
+            Contains (clause_at table (length (pairs_of self.old))) pair.second) →
             (is_binary ≡ true → length (clause_at table (length (pairs_of self.old))) ≡ 2) →
             FitClauses table (lists_of self.old) → FitClauses table (lists_of self.new)) }
     {
-        match pair {
-            Some((first, second)) => {
-                self.add_two(first, second, is_binary)?;
-                Ok(())
-            }
-            None => {
-                self.add_none()?;
-                Ok(())
+        let number = narrow(self.pairs.len())?;
+        self.pairs.push(pair)?;
+        if pair.first == pair.second {
+            return Ok(());
+        }
+        match push_both(&mut self.lists, pair, number, is_binary) {
+            Ok(()) => Ok(()),
+            Err(error) => {
+                self.pairs.pop();
+                Err(error)
             }
         }
     }
@@ -299,7 +242,7 @@ impl Watches {
             is_binary: watch.is_binary,
             start: watch.start,
         };
-        self.lists.set(list_number(literal), placed.place, watch);
+        self.lists.set(literal.list_number(), placed.place, watch);
     }
 
     /// Makes a clause of a literal's list watch another literal instead, with a start for the next search.
@@ -315,8 +258,8 @@ impl Watches {
     ) -> Result<(), AllocError>
         requires from { HasList self.old from }
         requires to { HasList self.old to }
-        requires differ { from ≢ to }
         requires placed { slice_get (list_at (lists_of self.old) (list_number from)) placed.now.place ≡ Some placed.now.watch }
+        requires unwatched { IsWatching (pairs_of self.old) placed.now.watch.number to → ⊥ }
         ensures moved { OnOk result (MovesWatch (lists_of self.old) (lists_of self.new) (pairs_of self.old) (pairs_of self.new) from to
             placed.now.place placed.now.watch.number) }
         ensures kept { OnErr result (pairs_of self.new ≡ pairs_of self.old) }
@@ -331,8 +274,8 @@ impl Watches {
             is_binary: watch.is_binary,
             start,
         };
-        self.lists.push(list_number(copied(&to)), moved)?;
-        self.lists.take(list_number(copied(&from)), placed.place);
+        self.lists.push(to.list_number(), moved)?;
+        self.lists.take(from.list_number(), placed.place);
         self.pairs[watch.number as usize].replace(from, to);
         Ok(())
     }

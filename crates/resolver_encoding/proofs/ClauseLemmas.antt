@@ -4,7 +4,7 @@ use Rattle.std.proofs.Common.{append-nil, map}
 use Rattle.std.specs.List.{AllZip}
 use Rattle.std.proofs.lemmas.List.{take_more, map-append}
 use Rattle.resolver_clause_store.specs.Variables.{Keeps}
-use Rattle.resolver_clause_store.specs.declared.Literal.{Literal}
+use Rattle.resolver_clause_store.specs.Literals.{Literal}
 use Rattle.resolver_clause_store.specs.declared.Origin.{Origin}
 use Rattle.resolver_clause_store.proofs.PlaceLemmas.{Keeps-same, Keeps-trans}
 use Rattle.resolver_encoding.specs.Atoms.{Atom}

@@ -1,12 +1,11 @@
 -- Numbers that differ have codes that differ.
-use Rattle.std.proofs.Common.{◌≡◌, ◌≢◌, ℕ, ◌+◌, ◌-◌, ◌*◌, ◌/◌, ◌%◌, ◌^◌, ◌<◌, ◌≤◌, zero, suc, Bool, true, false, arith, refl, sym, ap, ◌∙◌, subst, ⊎_elim, Contains}
+use Rattle.std.proofs.Common.{◌≡◌, ◌≢◌, ℕ, ◌-◌, ◌*◌, ◌/◌, ◌%◌, ◌^◌, ◌<◌, ◌≤◌, zero, suc, Bool, true, false, arith, refl, sym, ap, ◌∙◌, subst, ⊎_elim, Contains}
 use Rattle.std.specs.Prelude.{not, nat_eq}
-use Rattle.std.specs.Int.{bit_at}
 use Rattle.std.specs.Int.Count.{count_leading_zeros}
-use Rattle.std.proofs.Math.Nat.{div-eq_of_lt, mod-lt, pow-succ'}
+use Rattle.std.proofs.Math.Nat.{div-eq_of_lt, pow-succ'}
 use Rattle.std.proofs.lemmas.Bool.{cases_eq, cases_lt}
-use Rattle.std.proofs.lemmas.Nat.{div-add-mod', leading_length, pow_below, pow_pos}
-use Rattle.std.proofs.lemmas.Nat.Bits.{bit_at-suc, bit_at_above, bit_at_cat_high, bit_at_cat_low, bit_at_lowest}
+use Rattle.std.proofs.lemmas.Nat.{leading_length, pow_below}
+use Rattle.std.proofs.lemmas.Nat.Bits.{bit_at-suc, bit_at_lowest}
 use Rattle.resolver_clause_store.specs.Universe.{Universe, Demands}
 use Rattle.resolver_clause_store.specs.declared.ClauseKind.TheVariants.{HasBit}
 use Rattle.resolver_encoding.specs.Codes.{bit}
@@ -80,28 +79,6 @@ digit_apart j k (suc fuel) less enough = ⊎_elim
     parities (suc (suc a)) b h k differ = absurd (omega (arith, h))
     parities zero (suc (suc b)) h k differ = absurd (omega (arith, k))
     parities (suc zero) (suc (suc b)) h k differ = absurd (omega (arith, k))
-
--- the digits of a number below one, which is set or not
-pub cleared-lower : (number k i : ℕ) → i < k → bit (number % 2 ^ k) i ≡ bit number i
-cleared-lower number k i less =
-    let whole : (number / 2 ^ k) * 2 ^ k + number % 2 ^ k ≡ number = div-add-mod' number (2 ^ k) in
-    sym (ap (λ d. nat_eq d 1) (bit_at_cat_low (number / 2 ^ k) k (number % 2 ^ k) i less)) ∙ ap (λ n. bit n i) whole
-
-set_digit : (number k : ℕ) → number % 2 ^ k + 2 ^ k ≡ 1 * 2 ^ k + number % 2 ^ k
-set_digit number k = omega arith
-
-pub set-lower : (number k i : ℕ) → i < k → bit (number % 2 ^ k + 2 ^ k) i ≡ bit number i
-set-lower number k i less =
-    ap (λ n. bit n i) (set_digit number k) ∙ ap (λ d. nat_eq d 1) (bit_at_cat_low 1 k (number % 2 ^ k) i less) ∙ cleared-lower number k i less
-
-pub set-digit : (number k : ℕ) → bit (number % 2 ^ k + 2 ^ k) k ≡ true
-set-digit number k =
-    let none : k - k ≡ 0 = omega arith in
-    ap (λ n. bit n k) (set_digit number k) ∙
-    ap (λ d. nat_eq d 1) (bit_at_cat_high 1 k (number % 2 ^ k) k (mod-lt number (pow_pos k)) (omega arith) ∙ ap (bit_at 1) none)
-
-pub cleared-digit : (number k : ℕ) → bit (number % 2 ^ k) k ≡ false
-cleared-digit number k = ap (λ d. nat_eq d 1) (bit_at_above (number % 2 ^ k) k k (mod-lt number (pow_pos k)) (omega arith))
 
 -- a number that does not begin its last digit begins none
 pub no_new_digit : (number count i : ℕ) → ((j : ℕ) → j < count → 2 ^ j ≤ number) → ((j : ℕ) → 2 ^ j ≤ number → j < count) → (number ≡ 2 ^ (count - 1) → ⊥) →

@@ -25,7 +25,7 @@ use Rattle.std.proofs.Common.{◌<◌, length}
 use Rattle.std.specs.Prelude.{slice_index_or}
 use Rattle.std.proofs.lemmas.Option.{slice_get-get_or}
 use Rattle.resolver_clause_store.specs.Formula.{MakesTrue}
-use Rattle.resolver_clause_store.specs.declared.Literal.{Literal}
+use Rattle.resolver_clause_store.specs.Literals.{Literal}
 use Rattle.resolver_encoding.specs.Values.{AreEncoded, kinds_at}
 use Rattle.resolver_encoding.proofs.Sound.{is_plain-parts, rules_obey}
 use Rattle.resolver_encoding.proofs.Extended.{values_by, clause_by_kind}

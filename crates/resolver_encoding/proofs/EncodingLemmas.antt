@@ -15,7 +15,7 @@ use Rattle.resolver_clause_store.specs.declared.By.{By}
 use Rattle.resolver_clause_store.specs.declared.ClauseKind.{ClauseKind}
 use Rattle.resolver_clause_store.specs.declared.ClauseKind.TheVariants.{InstallRoot, Requires, AnyOf, GateRequires, Constrains, ConstrainsExcluded}
 use Rattle.resolver_clause_store.specs.declared.ClauseKind.TheVariants.{ConstrainsParent, HasBit, Lock, Excluded}
-use Rattle.resolver_clause_store.specs.declared.Literal.{Literal}
+use Rattle.resolver_clause_store.specs.Literals.{Literal}
 use Rattle.resolver_clause_store.specs.declared.Origin.{Origin}
 use Rattle.resolver_clause_store.specs.declared.Origin.TheVariants.{Root, Solvable, ConditionHelper}
 use Rattle.resolver_clause_store.specs.declared.Requirement.{Requirement}
@@ -24,7 +24,7 @@ use Rattle.resolver_clause_store.proofs.PlaceLemmas.{Keeps-same, Keeps-trans, pl
 use Rattle.resolver_encoding.specs.Atoms.{Atom, atom, atoms_of, first_atom, front, helpers_of, second_atom, wanted}
 use Rattle.resolver_encoding.specs.Called.{Call, to_ask, to_see}
 use Rattle.resolver_encoding.specs.Encodings.{AddsKind, IsRequirementKind, Coding, Doing, Extends, Grows, HasProperHelper, IsAskStep}
-use Rattle.resolver_encoding.specs.Encodings.{IsEncodingOf, IsEncodingWhile, IsFollowed, IsLeft, IsReadStep, IsStep, IsStepWhile, Notes, numbers_with, idle}
+use Rattle.resolver_encoding.specs.Encodings.{IsEncodingOf, IsEncodingWhile, IsFollowed, IsGrowth, IsLeft, IsReadStep, IsStep, IsStepWhile, Notes, numbers_with, idle}
 use Rattle.resolver_encoding.specs.Codes.{bit}
 use Rattle.resolver_encoding.specs.Groups.{IsAt}
 use Rattle.resolver_encoding.specs.Read.{IsForbidden, forbidden_direct, forbidden_helped}
@@ -61,6 +61,12 @@ pub Extends-within : {X : Type 0} (xs ys : List X) → Extends xs ys → IsWithi
 Extends-within {X} xs ys more x h =
     let Has : List X → Type 0 = λ list. Contains list x in
     subst Has (sym more.is) (Contains-append_left xs more.more x h)
+
+pub IsGrowth-same : {N S : Type 0} (notes : Notes N S) → IsGrowth notes notes
+IsGrowth-same notes = search (Keeps-same, Extends-same)
+
+pub IsGrowth-trans : {N S : Type 0} (one two three : Notes N S) → IsGrowth one two → IsGrowth two three → IsGrowth one three
+IsGrowth-trans one two three first second = search (Keeps-trans, Extends-trans, IsWithin-trans)
 
 -- the clause is no requirement clause
 abbrev pub IsPlain : {N S : Type 0} → ClauseKind N S → Type 0
@@ -355,7 +361,7 @@ module _ {N S : Type 0} (u : Universe N S) where
   StaysRight doing Premise old new = (root : Demands) → Premise root → IsEncodingWhile u doing root old → IsEncodingWhile u doing root new
 
   pub IsStep-same : (doing : Doing N S) (Premise : Demands → Type 0) (notes : Notes N S) → IsStepWhile u doing Premise notes notes
-  IsStep-same doing Premise notes = search (Keeps-same, Extends-same)
+  IsStep-same doing Premise notes = search IsGrowth-same
 
   -- one more clause was added
   pub IsStep-clause : (doing : Doing N S) (Premise : Demands → Type 0) (old new : Notes N S) (kind : ClauseKind N S) → AddsKind u kind old new →
@@ -368,7 +374,7 @@ module _ {N S : Type 0} (u : Universe N S) where
       (AreListed-kind old.kinds old.requirements kind (record { listed = before.listed; ask = before.ask })) (next root premise before) before in
       let longer : Extends old.requirements numbers = Extends-asking kind (length old.kinds) old.requirements in
       subst Step (sym adds.is)
-      (assumption (IsStep-same doing Premise old, adds.origins.keeps, Extends-push old.table adds.literals, IsWithin-push old.kinds kind, longer))
+      (assumption (IsStep-same doing Premise old, IsGrowth-same old, adds.origins.keeps, Extends-push old.table adds.literals, IsWithin-push old.kinds kind, longer))
 
   pub clause_listed : (old new : Notes N S) (kind : ClauseKind N S) → AddsKind u kind old new → Contains new.kinds kind
   clause_listed old new kind adds =
@@ -377,7 +383,7 @@ module _ {N S : Type 0} (u : Universe N S) where
 
   pub IsStep-trans : (doing : Doing N S) (Premise : Demands → Type 0) (one two three : Notes N S) → IsStepWhile u doing Premise one two →
       IsStepWhile u doing Premise two three → IsStepWhile u doing Premise one three
-  IsStep-trans doing Premise one two three first second = search (Keeps-trans, Extends-trans, IsWithin-trans, first.keeps, second.keeps)
+  IsStep-trans doing Premise one two three first second = search (IsGrowth-trans, IsWithin-trans, first.keeps, second.keeps)
 
   -- a step is also a step under a premise that implies its own
   pub IsStep-weaker : (doing : Doing N S) (Premise Stronger : Demands → Type 0) → ((root : Demands) → Stronger root → Premise root) → (old new : Notes N S) →
@@ -393,9 +399,7 @@ module _ {N S : Type 0} (u : Universe N S) where
   pub IsAskStep-of : (Called : Call N S → Type 0) (Premise : Demands → Type 0) (old new : Notes N S) → IsStep u Premise old new →
       IsAskStep u Called Premise old new
   IsAskStep-of Called Premise old new step =
-      let Asked : List N → Type 0 = λ list. IsWithin old.asked list in
-      let Seen : List S → Type 0 = λ list. Extends old.seen list in
-      search (subst Seen (sym step.seen) (Extends-same old.seen), subst Asked (sym step.asked) (IsWithin-same old.asked), inl, followed_before old new)
+      search (inl, followed_before old new)
 
   pub IsAskStep-same : (Called : Call N S → Type 0) (Premise : Demands → Type 0) (notes : Notes N S) → IsAskStep u Called Premise notes notes
   IsAskStep-same Called Premise notes = IsAskStep-of Called Premise notes notes (IsStep-same idle Premise notes)
@@ -405,7 +409,7 @@ module _ {N S : Type 0} (u : Universe N S) where
   IsAskStep-trans Called Premise one two three first second =
       let called : (call : Call N S) → IsFollowed three call → IsFollowed one call ⊎ Called call =
       λ call h. ⊎_elim (λ before. first.called call before) (λ called. inr called) (second.called call h) in
-      search (Keeps-trans, Extends-trans, IsWithin-trans, first.keeps, second.keeps)
+      search (IsGrowth-trans, first.keeps, second.keeps)
 
   -- such a step with more calls, under a premise that implies its own
   pub IsAskStep-weaker : (Called More : Call N S → Type 0) → ((call : Call N S) → Called call → More call) → (Premise Stronger : Demands → Type 0) →
@@ -434,7 +438,7 @@ module _ {N S : Type 0} (u : Universe N S) where
       λ call h. ⊎_elim (λ before. first.called call before) (λ called. inr called) (second.called call h) in
       let defers : (e : Deferred S) → IsLeft three e → IsLeft one e ⊎ Defers e =
       λ e h. ⊎_elim (λ before. first.defers e before) (λ put_off. inr put_off) (second.defers e h) in
-      search (Keeps-trans, Extends-trans, IsWithin-trans, first.keeps, second.keeps)
+      search (IsGrowth-trans, Extends-trans, first.keeps, second.keeps)
 
   pub IsReadStep-weaker : (Defers : Deferred S → Type 0) (Called More : Call N S → Type 0) → ((call : Call N S) → Called call → More call) →
       (Premise Stronger : Demands → Type 0) → ((root : Demands) → Stronger root → Premise root) → (old new : Notes N S) →

@@ -12,7 +12,7 @@ use Rattle.resolver_clause_store.specs.Lists.{Meets}
 use Rattle.resolver_clause_store.specs.Universe.{Universe, Demands}
 use Rattle.resolver_clause_store.specs.Candidates.{matching}
 use Rattle.resolver_clause_store.specs.declared.VersionSetId.{VersionSetId}
-use Rattle.resolver_clause_store.proofs.PlaceLemmas.{Keeps-trans, place_cases, place_of_member}
+use Rattle.resolver_clause_store.proofs.PlaceLemmas.{place_cases, place_of_member}
 use Rattle.resolver_encoding.specs.Called.{Call, IsWantedBy}
 use Rattle.resolver_encoding.specs.Encodings.{IsAskStep, IsEncoding, IsFollowed, IsLeft, IsReadStep, IsTrueEntry, IsTrueUnder, Notes}
 use Rattle.resolver_encoding.specs.Groups.{AddsNamed, AreGroups, IsNamed}
@@ -22,7 +22,7 @@ use Rattle.resolver_encoding.specs.SoFar.{HasFired, HasMet, IsDeferral, IsFiring
 use Rattle.resolver_clause_store.specs.Statements.{AllMeet}
 use Rattle.resolver_encoding.specs.declared.disjuncts.Entry.{Entry}
 use Rattle.resolver_encoding.specs.declared.groups.Groups.{Groups}
-use Rattle.resolver_encoding.proofs.EncodingLemmas.{Extends-push, Extends-trans, IsReadStep-same, IsWithin-trans}
+use Rattle.resolver_encoding.proofs.EncodingLemmas.{Extends-push, IsGrowth-same, IsGrowth-trans, IsReadStep-same}
 use Rattle.resolver_encoding.proofs.NoteLemmas.{All-grown_at}
 use Rattle.resolver_clause_store.proofs.ListLemmas.{Contains-at as place_in, Contains-map}
 use Rattle.resolver_encoding.proofs.ReadLemmas.{HasClause-within}
@@ -206,7 +206,7 @@ module _ {N S : Type 0} (u : Universe N S) where
       let deferred : (x : Deferred S) → Contains (old.deferred ++ Some e ∷ []) (Some x) → IsLeft old x ⊎ Defers x =
       λ x h. ⊎_elim (λ earlier. inl earlier) (λ (is : Some e ≡ Some x). inr (subst Defers (same_Some e x is) defers))
       (Contains-push_cases old.deferred (Some e) (Some x) h) in
-      subst Step (sym deferral.is) (search (IsReadStep-same u Defers Called Premise old, Extends-push old.deferred (Some e), keeps))
+      subst Step (sym deferral.is) (search (IsReadStep-same u Defers Called Premise old, IsGrowth-same old, Extends-push old.deferred (Some e), keeps))
     where
       keeps : (root : Demands) → Premise root → IsEncoding u root old →
           IsEncoding u root (record old { deferred = old.deferred ++ Some e ∷ []; deferred_by_name = deferral.deferred_by_name })
@@ -250,9 +250,9 @@ module _ {N S : Type 0} (u : Universe N S) where
         let taken = λ (i : ℕ) (e : Deferred S) (at : slice_get one.deferred i ≡ Some (Some e)). ⊎_elim
         (λ (there : slice_get two.deferred i ≡ Some (Some e)). second.taken i e there)
         (λ (fired : AllMeet set (map (matching u) e.disjunct) × HasClause two.kinds e.by e.disjunct e.requirement). inr
-        (fired.0, HasClause-within u two.kinds three.kinds second.kinds e.by e.disjunct e.requirement fired.1))
+        (fired.0, HasClause-within u two.kinds three.kinds second.growth.kinds e.by e.disjunct e.requirement fired.1))
         (first.taken i e at) in
-        search (Keeps-trans, Extends-trans, IsWithin-trans, first.stays, second.stays, first.keeps, second.keeps)
+        search (IsGrowth-trans, first.stays, second.stays, first.keeps, second.keeps)
 
     -- the disjunct with this number is met
     pub met_entry : (number : ℕ) (e : Deferred S) (old mid : Notes N S) → HasMet u set old number → IsTakenOut number e old mid →
@@ -262,7 +262,7 @@ module _ {N S : Type 0} (u : Universe N S) where
         subst Met (same_Some _ _ (same_Some _ _ (sym has.is ∙ out.was))) has.met
 
     module _ (number : ℕ) (e : Deferred S) (old mid new : Notes N S) (out : IsTakenOut number e old mid)
-        (step : IsAskStep u (IsWantedBy u e.requirement) (IsTrueUnder u e.by e.disjunct e.requirement) mid new) where
+        (step : IsAskStep u (IsWantedBy u e.requirement) (IsTrueUnder u e) mid new) where
       left_now : new.deferred ≡ slice_set old.deferred number None
       left_now = step.deferred ∙ ap (λ (n : Notes N S). n.deferred) out.is
 
@@ -280,7 +280,7 @@ module _ {N S : Type 0} (u : Universe N S) where
       -- a disjunct was removed, and its requirement encoded
       pub IsFiring-taken : AllMeet set (map (matching u) e.disjunct) → HasClause new.kinds e.by e.disjunct e.requirement → IsFiring u set old new
       IsFiring-taken met clause =
-          let Step : Notes N S → Type 0 = λ n. IsAskStep u (IsWantedBy u e.requirement) (IsTrueUnder u e.by e.disjunct e.requirement) n new in
+          let Step : Notes N S → Type 0 = λ n. IsAskStep u (IsWantedBy u e.requirement) (IsTrueUnder u e) n new in
           let plain = subst Step out.is step in
           let listed = place_in old.deferred number (Some e) out.was in
           let called : (call : Call N S) → IsFollowed new call → IsFollowed old call ⊎

@@ -13,11 +13,10 @@ use Rattle.resolver_clause_store.specs.Caches.{Covers}
 use Rattle.resolver_clause_store.specs.Universe.{Universe, Demands, Hint}
 use Rattle.resolver_clause_store.specs.Variables.{Keeps}
 use Rattle.resolver_clause_store.specs.declared.By.TheVariants.{Solvable as BySolvable}
-use Rattle.resolver_clause_store.specs.declared.Literal.{Literal}
+use Rattle.resolver_clause_store.specs.Literals.{Literal}
 use Rattle.resolver_clause_store.specs.declared.Origin.{Origin}
 use Rattle.resolver_clause_store.specs.declared.RequirementClause.{RequirementClause}
 use Rattle.resolver_clause_store.specs.declared.Origin.TheVariants.{Root, Solvable, Bit, Gate, ConstraintHelper, ConditionHelper}
-use Rattle.resolver_clause_store.proofs.PlaceLemmas.{Keeps-trans}
 use Rattle.resolver_encoding.specs.Called.{AreAsked, IsCalledFor, to_ask}
 use Rattle.resolver_encoding.specs.Encodings.{Extends, IsEncoding, IsLeft, Notes}
 use Rattle.resolver_encoding.specs.Hints.{AreHintsReadTo, AreReadIfHinted, HintsAtNone, IsHinted, IsListedFrom, candidates_at, literals_at, stated_by, stated_by_each}
@@ -25,7 +24,7 @@ use Rattle.resolver_encoding.specs.ReadState.{Deferred}
 use Rattle.resolver_encoding.specs.SoFar.{HasRead, IsHalfRead, IsHintedReading, IsProgress, IsReadMore, IsReadSoFar, IsReadingOf, left_count, progress_by}
 use Rattle.resolver_encoding.specs.Trails.{solvable_found}
 use Rattle.resolver_encoding.proofs.EncodedLemmas.{encoded_below}
-use Rattle.resolver_encoding.proofs.EncodingLemmas.{Extends-trans, Extends-within}
+use Rattle.resolver_encoding.proofs.EncodingLemmas.{Extends-trans, Extends-within, IsGrowth-trans}
 use Rattle.resolver_encoding.proofs.ReachLemmas.{near_read, positives_seen}
 use Rattle.resolver_clause_store.proofs.FormulaLemmas.{clause_at-found, clause_at-past}
 use Rattle.resolver_clause_store.proofs.ListLemmas.{Contains-at as place_in, Contains-cons_cases as cons_cases, Contains-here as here, Contains-none as none_in}
@@ -176,7 +175,7 @@ module _ {N S : Type 0} (u : Universe N S) where
         record {
           reading = IsReadingOf-trans u set (IsListedFrom three from) one two three
               (IsReadingOf-weaker u set (IsListedFrom two from) (IsListedFrom three from) (λ s l.
-              listed_on root two three after.encoding second.reading.origins second.reading.table second.reading.requirements from s l) one two
+              listed_on root two three after.encoding second.reading.growth.origins second.reading.growth.table second.reading.growth.requirements from s l) one two
               first.reading)
               second.reading;
           near = λ other seeds packages near all. second.near other seeds packages (first.near other seeds packages near all) all;
@@ -220,7 +219,7 @@ module _ {N S : Type 0} (u : Universe N S) where
         let after : IsReadSoFar u root set new = so_far_on root Reads old new so reading in
         let later : IsWithin old.read new.read = λ s h. Extends-within old.read new.read reading.read s h in
         record {
-          stays = λ n h. reading.asked n (asked.stays n h);
+          stays = λ n h. reading.growth.asked n (asked.stays n h);
           only = λ n h. ⊎_elim
               (λ (was : Contains old.asked n). ⊎_elim
               (λ (earlier : Contains before n). inl earlier)
@@ -234,21 +233,18 @@ module _ {N S : Type 0} (u : Universe N S) where
     pub more_on : (root : Demands) (old mid new : Notes N S) → IsEncoding u root mid → IsReadMore u set old mid →
         IsReadingOf u set (IsListedFrom new (length old.requirements)) mid new → IsReadMore u set old new
     more_on root old mid new encoding more reading = record {
-      origins = Keeps-trans old.origins mid.origins new.origins more.origins reading.origins;
-      table = Extends-trans old.table mid.table new.table more.table reading.table;
-      requirements = Extends-trans old.requirements mid.requirements new.requirements more.requirements reading.requirements;
-      seen = Extends-trans old.seen mid.seen new.seen more.seen reading.seen;
+      growth = IsGrowth-trans old mid new more.growth reading.growth;
       read = Extends-trans old.read mid.read new.read more.read reading.read;
       reads = λ s h. ⊎_elim
           (λ (was : Contains mid.read s). ⊎_elim
           (λ (earlier : Contains old.read s). inl earlier)
           (λ w. ⊎_elim (λ (chosen : Contains set s). inr (inl chosen)) (λ l.
-          inr (inr (listed_on root mid new encoding reading.origins reading.table reading.requirements (length old.requirements) s l))) w)
+          inr (inr (listed_on root mid new encoding reading.growth.origins reading.growth.table reading.growth.requirements (length old.requirements) s l))) w)
           (more.reads s was))
           (λ l. inr (inr l))
           (reading.reads s h);
       taken = λ i e at. ⊎_elim (λ still. inl (same_deferred i e still)) (λ met. inr met) (more.taken i e at);
-      exempt = reading.exempt ∙ more.exempt;
+      exempt = reading.growth.exempt ∙ more.exempt;
     }
       where
         same_deferred : (i : ℕ) (e : Deferred S) → slice_get mid.deferred i ≡ Some (Some e) → slice_get new.deferred i ≡ Some (Some e)

@@ -33,9 +33,4 @@ pub mod TurnLemmas
 pub mod EncodedLemmas
 pub mod LeftOutLemmas
 pub mod TableLemmas
-pub mod StoredKindLemmas
-pub mod RunLemmas
-pub mod LongerRunLemmas
-pub mod ClauseRunLemmas
 pub mod VariableLemmas
-pub mod BegunLemmas

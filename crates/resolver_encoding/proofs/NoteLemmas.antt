@@ -19,10 +19,10 @@ use Rattle.resolver_clause_store.specs.declared.StringId.{StringId}
 use Rattle.resolver_clause_store.specs.declared.VersionSetId.{VersionSetId}
 use Rattle.resolver_clause_store.proofs.SetLemmas.{All-next}
 use Rattle.resolver_encoding.specs.Called.{Call, IsAsking, IsNamedBy, IsSeeing, IsSeeingEach, to_ask, to_see}
-use Rattle.resolver_encoding.specs.Encodings.{AddsKind, Doing, Extends, Grows, HasProperHelper, IsAskStep, IsEncoding}
+use Rattle.resolver_encoding.specs.Encodings.{AddsKind, Doing, Grows, HasProperHelper, IsAskStep, IsEncoding}
 use Rattle.resolver_encoding.specs.Encodings.{IsEncodingWhile, IsFollowed, IsLockRead, IsStep, IsStepWhile, Notes, asking_for, idle}
 use Rattle.resolver_encoding.specs.Truth.{AreDue, IsTrueClause}
-use Rattle.resolver_encoding.proofs.EncodingLemmas.{AreEncoded-keeps, Contains-kept, Extends-same, HasCodes, IsDue, IsPrepared, IsStep-clause}
+use Rattle.resolver_encoding.proofs.EncodingLemmas.{AreEncoded-keeps, Contains-kept, HasCodes, IsDue, IsPrepared, IsStep-clause}
 use Rattle.resolver_encoding.proofs.EncodingLemmas.{IsStep-same, IsWithin-push, StaysRight}
 use Rattle.resolver_clause_store.proofs.ListLemmas.{Contains-cons_cases as cons_cases, Contains-here as here, Contains-there as there}
 
@@ -120,9 +120,7 @@ module _ {N S : Type 0} (u : Universe N S) where
       new ≡ record mid { asked = mid.asked ++ n ∷ [] } → IsPackageRead mid.kinds mid.exempt (u.package_named n) → IsAskStep u (IsAsking n) (λ root. ⊤) old new
   IsStep-asked old mid new n step same e read =
       let Step : Notes N S → Type 0 = λ m. IsAskStep u (IsAsking n) (λ root. ⊤) old m in
-      let Seen : List S → Type 0 = λ list. Extends old.seen list in
       let Asked : List N → Type 0 = λ list. IsWithin old.asked (list ++ n ∷ []) in
-      let seen = subst Seen (sym step.seen) (Extends-same old.seen) in
       let asked = subst Asked (sym same) (IsWithin-push old.asked n) in
       subst Step (sym e) (assumption (step, asked_alone old mid n same step.seen, keeps))
     where

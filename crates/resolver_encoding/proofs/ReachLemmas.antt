@@ -18,7 +18,7 @@ use Rattle.resolver_clause_store.specs.declared.ClauseKind.TheVariants.{InstallR
 use Rattle.resolver_clause_store.specs.declared.ClauseKind.TheVariants.{Constrains as ConstrainsKind, ConstrainsExcluded, ConstrainsParent, HasBit, Lock}
 use Rattle.resolver_clause_store.specs.declared.ClauseKind.TheVariants.{Excluded}
 use Rattle.resolver_clause_store.specs.declared.ConditionalRequirement.{ConditionalRequirement}
-use Rattle.resolver_clause_store.specs.declared.Literal.{Literal}
+use Rattle.resolver_clause_store.specs.Literals.{Literal}
 use Rattle.resolver_clause_store.specs.declared.Origin.{Origin}
 use Rattle.resolver_clause_store.specs.declared.Origin.TheVariants.{Root, Solvable, Bit, Gate, ConstraintHelper, ConditionHelper}
 use Rattle.resolver_clause_store.specs.declared.Requirement.{Requirement}

@@ -19,7 +19,7 @@ use Rattle.resolver_encoding.specs.Encodings.{Notes, coding_for}
 use Rattle.resolver_encoding.specs.Groups.{AddsNamed, AreGroups, IsAt, IsNamed}
 use Rattle.resolver_encoding.specs.declared.groups.Groups.{Groups}
 use Rattle.resolver_encoding.specs.Truth.{AreCodes, IsTrueClause}
-use Rattle.resolver_encoding.proofs.EncodingLemmas.{Extends-push, IsStep-clause, IsWithin-push, IsWithin-same}
+use Rattle.resolver_encoding.proofs.EncodingLemmas.{Extends-push, IsStep-clause, IsWithin-push}
 use Rattle.resolver_encoding.proofs.GroupLemmas.{named_of_number, number_is}
 use Rattle.resolver_encoding.proofs.CodeLemmas.{no_digit, pow_same}
 use Rattle.resolver_encoding.proofs.NoteLemmas.{IsStep-kind, holds_also}
@@ -181,9 +181,7 @@ module _ {N S : Type 0} (u : Universe N S) where
     IsStep-seen old mid new groups list name absent step same_groups same_seen e adds has each every count own begun =
         let Step : Notes N S → Type 0 = λ m. IsAskStep u (IsSeeing s) (λ root. ⊤) old m in
         let Longer : List S → Type 0 = λ list. Extends old.seen (list ++ s ∷ []) in
-        let Asked : List N → Type 0 = λ list. IsWithin old.asked list in
         let seen = subst Longer (sym step.seen) (Extends-push old.seen s) in
-        let asked = subst Asked (sym step.asked) (IsWithin-same old.asked) in
         subst Step (sym e) (assumption (step, seen_alone old mid groups step.asked step.seen, keeps))
       where
         At : Groups N S → N → ℕ → S → Type 0

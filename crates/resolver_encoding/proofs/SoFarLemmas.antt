@@ -19,7 +19,7 @@ use Rattle.resolver_clause_store.specs.declared.ConditionalRequirement.{Conditio
 use Rattle.resolver_clause_store.specs.declared.Origin.TheVariants.{Solvable}
 use Rattle.resolver_clause_store.specs.declared.Requirement.{Requirement}
 use Rattle.resolver_clause_store.specs.declared.VersionSetId.{VersionSetId}
-use Rattle.resolver_clause_store.proofs.PlaceLemmas.{Keeps-same, Keeps-trans, place_left, place_of_member}
+use Rattle.resolver_clause_store.proofs.PlaceLemmas.{place_left, place_of_member}
 use Rattle.resolver_clause_store.specs.Statements.{IsPresent, AllMeet}
 use Rattle.resolver_clause_store.specs.TrueRules.{demands_by}
 use Rattle.resolver_encoding.specs.Called.{AreAsked, Call, IsCalledFor, IsDemanded, IsNamedIn, to_ask}
@@ -31,7 +31,7 @@ use Rattle.resolver_encoding.specs.ReadState.{Deferred, HasClause, IsReadRequire
 use Rattle.resolver_encoding.specs.SoFar.{HasFired, HasRead, IsBare, IsFiring, IsHalfRead, IsMoreOrSame, IsProgress, IsQuietUnder, IsReadMore, IsReadSoFar}
 use Rattle.resolver_encoding.specs.SoFar.{IsReadingOf, left_count, progress_by}
 use Rattle.resolver_encoding.specs.Truth.{HasLawfulSolvables}
-use Rattle.resolver_encoding.proofs.EncodingLemmas.{Contains-kept, Extends-same, Extends-trans, Extends-within, IsWithin-same, IsWithin-trans}
+use Rattle.resolver_encoding.proofs.EncodingLemmas.{Contains-kept, Extends-same, Extends-trans, Extends-within, IsGrowth-same, IsGrowth-trans, IsWithin-same}
 use Rattle.resolver_encoding.proofs.ReadLemmas.{AreDemandsRead-grown, AreNeedsRead-grown, HasClause-within, IsConstraintRead-within, demands_read}
 use Rattle.resolver_encoding.proofs.ReadLemmas.{not_in, packages_of}
 use Rattle.resolver_clause_store.proofs.ListLemmas.{Contains-at as place_in, Contains-here as here, Contains-none as none_in, Contains-there as there}
@@ -65,7 +65,7 @@ met_in_parts {N} {S} u first second (v ∷ vs) met =
 
 module _ {N S : Type 0} (u : Universe N S) (set : List S) where
   pub IsReadingOf-same : (Reads : S → Type 0) (notes : Notes N S) → IsReadingOf u set Reads notes notes
-  IsReadingOf-same Reads notes = search (Keeps-same, Extends-same, inl)
+  IsReadingOf-same Reads notes = search (IsGrowth-same, Extends-same, inl)
 
   pub IsReadingOf-trans : (Reads : S → Type 0) (one two three : Notes N S) → IsReadingOf u set Reads one two → IsReadingOf u set Reads two three →
       IsReadingOf u set Reads one three
@@ -76,7 +76,7 @@ module _ {N S : Type 0} (u : Universe N S) (set : List S) where
       (second.called call h) in
       let reads = λ (s : S) (h : Contains three.read s). ⊎_elim (first.reads s) (λ may. inr may) (second.reads s h) in
       let unmet = λ (e : Deferred S) (h : IsLeft three e). ⊎_elim (first.unmet e) (λ never. inr never) (second.unmet e h) in
-      search (Keeps-trans, Extends-trans, IsWithin-trans, first.keeps, second.keeps)
+      search (IsGrowth-trans, Extends-trans, first.keeps, second.keeps)
 
   pub IsReadingOf-weaker : (Reads More : S → Type 0) → ((s : S) → Reads s → More s) → (old new : Notes N S) → IsReadingOf u set Reads old new →
       IsReadingOf u set More old new
@@ -106,7 +106,7 @@ module _ {N S : Type 0} (u : Universe N S) (set : List S) where
       disjuncts = h.disjuncts;
       complete = h.complete;
       each = λ list k. ⊎_elim
-          (λ has. inl (HasClause-within u mid.kinds new.kinds firing.kinds by list r.requirement has))
+          (λ has. inl (HasClause-within u mid.kinds new.kinds firing.growth.kinds by list r.requirement has))
           (λ left. ⊎_elim (λ still. inr still) (λ fired. inl fired) (left_or_fired (record { by = by; disjunct = list; requirement = r.requirement }) left))
           (h.each list k);
     }
@@ -116,14 +116,14 @@ module _ {N S : Type 0} (u : Universe N S) (set : List S) where
       requirements = All-weaker (IsReadRequirement u mid.kinds (IsLeft mid) by) (IsReadRequirement u new.kinds (IsLeft new) by)
           (requirement_fired by) demands.requirements h.requirements;
       constraints = All-weaker (IsConstraintRead u mid.kinds by) (IsConstraintRead u new.kinds by) (λ v k.
-          IsConstraintRead-within u mid.kinds new.kinds firing.kinds by v k) demands.constraints h.constraints;
+          IsConstraintRead-within u mid.kinds new.kinds firing.growth.kinds by v k) demands.constraints h.constraints;
       packages = All-weaker (λ v. Contains mid.asked (u.version_set_name v)) (λ v. Contains new.asked (u.version_set_name v)) (λ v k.
-          firing.asked (u.version_set_name v) k) demands.constraints h.packages;
+          firing.growth.asked (u.version_set_name v) k) demands.constraints h.packages;
     }
 
     needs_fired : (s : S) (needs : Needs) → AreNeedsRead u mid s needs → AreNeedsRead u new s needs
     needs_fired s (known d) h = demands_fired (BySolvable s) d h
-    needs_fired s (unknown reason) h = firing.kinds (Excluded s reason) h
+    needs_fired s (unknown reason) h = firing.growth.kinds (Excluded s reason) h
 
     read_before : IsWithin new.read mid.read
     read_before = IsWithin-equal new.read mid.read (sym firing.read)
@@ -133,7 +133,7 @@ module _ {N S : Type 0} (u : Universe N S) (set : List S) where
       encoding = firing.keeps root half.encoding;
       root_read = demands_fired ByRoot root half.root_read;
       each_read = λ s h. needs_fired s (u.needs s) (half.each_read s (read_before s h));
-      read_known = λ s h. Contains-kept mid.origins new.origins firing.origins (Solvable s) (half.read_known s (read_before s h));
+      read_known = λ s h. Contains-kept mid.origins new.origins firing.growth.origins (Solvable s) (half.read_known s (read_before s h));
       left_read = λ e h. IsPresent-within e.by mid.read new.read (IsWithin-equal mid.read new.read firing.read) (half.left_read e (left_before e h));
     }
 
@@ -169,13 +169,7 @@ module _ {N S : Type 0} (u : Universe N S) (set : List S) where
         λ s h. ⊎_elim (λ before. inl before) (λ chosen. inr (inl chosen)) (reading.reads s (IsWithin-equal new.read mid.read (sym firing.read) s h)) in
         let taken = λ (i : ℕ) (e : Deferred S) (at : slice_get old.deferred i ≡ Some (Some e)).
         ⊎_elim (λ still. inl still) (λ fired. inr fired.0) (firing.taken i e (place_on old.deferred mid.deferred reading.deferred i (Some e) at)) in
-        assumption (
-          Keeps-trans old.origins mid.origins new.origins reading.origins firing.origins,
-          Extends-trans old.table mid.table new.table reading.table firing.table,
-          Extends-trans old.requirements mid.requirements new.requirements reading.requirements firing.requirements,
-          Extends-trans old.seen mid.seen new.seen reading.seen firing.seen,
-          firing.exempt ∙ reading.exempt,
-        )
+        assumption (IsGrowth-trans old mid new reading.growth firing.growth)
 
     module _ (root : Demands) (from : ℕ) (so : IsReadSoFar u root (take from set) old) (rest_read : All (Contains mid.read) (drop from set))
         (quiet : All (λ s. IsQuietUnder u set new (u.name s)) (drop from set))
@@ -243,7 +237,7 @@ module _ {N S : Type 0} (u : Universe N S) (set : List S) where
 
       pub all_asked : AreAsked (IsCalledFor u root new.read set) old.asked new.asked
       all_asked = record {
-        stays = λ n h. firing.asked n (reading.asked n h);
+        stays = λ n h. firing.growth.asked n (reading.growth.asked n h);
         only = only_called;
         all = λ n called. demanded_asked root new half_after so_far.none called.0 called.1 n called.2;
       }
@@ -283,15 +277,15 @@ module _ {N S : Type 0} (u : Universe N S) (set : List S) (s : S) (old mid new :
   half_noted : (root : Demands) → IsHalfRead u root old → IsHalfRead u root noted
   half_noted root half = record {
     encoding = IsEncoding-read u root mid (mid.read ++ s ∷ []) (step.keeps root tt half.encoding);
-    root_read = AreDemandsRead-grown u old noted step.kinds left_on step.asked ByRoot root half.root_read;
+    root_read = AreDemandsRead-grown u old noted step.growth.kinds left_on step.growth.asked ByRoot root half.root_read;
     each_read = λ t h. ⊎_elim
-        (λ (before : Contains mid.read t). AreNeedsRead-grown u old noted step.kinds left_on step.asked t (u.needs t)
+        (λ (before : Contains mid.read t). AreNeedsRead-grown u old noted step.growth.kinds left_on step.growth.asked t (u.needs t)
         (half.each_read t (earlier_read t before)))
         (λ (last : s ≡ t).
         let Needed : S → Type 0 = λ q. AreNeedsRead u noted q (u.needs q) in
         subst Needed last (AreNeedsRead-grown u mid noted (IsWithin-same mid.kinds) (λ e k. k) (IsWithin-same mid.asked) s (u.needs s) needs))
         (Contains-push_cases mid.read s t h);
-    read_known = λ t h. Contains-kept old.origins mid.origins step.origins (Solvable t) (⊎_elim
+    read_known = λ t h. Contains-kept old.origins mid.origins step.growth.origins (Solvable t) (⊎_elim
         (λ (before : Contains mid.read t). half.read_known t (earlier_read t before))
         (λ (last : s ≡ t). let Known : S → Type 0 = λ q. Contains old.origins (Solvable q) in subst Known last has_variable)
         (Contains-push_cases mid.read s t h));

@@ -65,7 +65,7 @@ module _ {N S : Type 0} (u : Universe N S) where
   pub IsRegistered-of : (s : S) (old new : Notes N S) → IsAskStep u (IsSeeing s) (λ root. ⊤) old new → Contains new.seen s →
       ((t : S) → Contains new.seen t → Contains old.seen t ⊎ (t ≡ s)) → new.requirements ≡ old.requirements → new.asked ≡ old.asked → IsRegistered u s old new
   IsRegistered-of s old new step seen only plain asked =
-      let stays = StaysRead-of old new step.origins step.kinds (IsWithin-equal old.asked new.asked asked) step.read step.deferred (λ root before.
+      let stays = StaysRead-of old new step.growth.origins step.growth.kinds step.growth.asked step.read step.deferred (λ root before.
       step.keeps root tt before) in
       assumption
 
@@ -152,7 +152,7 @@ module _ {N S : Type 0} (u : Universe N S) where
 
       pub IsTurnEnd-restored : IsStepWhile u (owing_for s) (λ root. ⊤) opened_notes new → AddsPlainly opened_notes new → IsTurnEnd u old new
       IsTurnEnd-restored step plainly =
-          let stays = StaysRead-of old new step.origins step.kinds (IsWithin-equal old.asked new.asked step.asked) step.read step.deferred (λ root before.
+          let stays = StaysRead-of old new step.growth.origins step.growth.kinds step.growth.asked step.read step.deferred (λ root before.
           owing_closed root (step.keeps root tt (owing_opened root before))) in
           assumption
 
@@ -197,11 +197,11 @@ module _ {N S : Type 0} (u : Universe N S) where
   AsksOnly-of n old new step here plain =
       let Asked : N → Type 0 = λ m. Contains new.asked m in
       let asked : AreAsked (λ m. m ≡ n) old.asked new.asked = record {
-        stays = step.asked;
+        stays = step.growth.asked;
         only = λ m h. ⊎_elim (λ was. inl was) (λ is. inr (sym is)) (step.called (to_ask m) h);
         all = λ m is. subst Asked (sym is) here;
       } in
-      let stays = StaysRead-of old new step.origins step.kinds step.asked step.read step.deferred (λ root before. step.keeps root tt before) in
+      let stays = StaysRead-of old new step.growth.origins step.growth.kinds step.growth.asked step.read step.deferred (λ root before. step.keeps root tt before) in
       assumption
 
   pub AsksOnly-same : (n : N) (notes : Notes N S) → Contains notes.asked n → AsksOnly u n notes notes

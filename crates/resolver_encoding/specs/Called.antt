@@ -64,6 +64,10 @@ IsCalledFor {N} {S} u root read set n = (by : By S) × IsPresent by read × IsDe
 abbrev pub IsPlainlyNamed : {N S : Type 0} → Universe N S → ConditionalRequirement → Call N S → Type 0
 IsPlainlyNamed u r call = (r.condition ≡ None) × IsNamedBy u (version_sets u r.requirement) call
 
+-- the same for one of the requirements
+abbrev pub IsPlainlyNamedByEach : {N S : Type 0} → Universe N S → List ConditionalRequirement → Call N S → Type 0
+IsPlainlyNamedByEach u requirements call = (r : ConditionalRequirement) × Contains requirements r × IsPlainlyNamed u r call
+
 -- the packages asked now are those asked before and exactly those that are called for
 pub record AreAsked {N : Type 0} (Called : N → Type 0) (old new : List N) : Type 0 where
   pub stays : (n : N) → Contains old n → Contains new n

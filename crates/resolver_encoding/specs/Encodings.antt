@@ -13,7 +13,7 @@ use Rattle.resolver_clause_store.specs.declared.ClauseKind.{ClauseKind}
 use Rattle.resolver_clause_store.specs.declared.ClauseKind.TheVariants.{InstallRoot, Requires, AnyOf, GateRequires, Constrains, ConstrainsExcluded}
 use Rattle.resolver_clause_store.specs.declared.ClauseKind.TheVariants.{ConstrainsParent, HasBit, Lock, Excluded}
 use Rattle.resolver_clause_store.specs.declared.ConditionalRequirement.{ConditionalRequirement}
-use Rattle.resolver_clause_store.specs.declared.Literal.{Literal}
+use Rattle.resolver_clause_store.specs.Literals.{Literal}
 use Rattle.resolver_clause_store.specs.declared.Origin.{Origin}
 use Rattle.resolver_clause_store.specs.declared.Origin.TheVariants.{Root, Solvable, Bit, Gate, ConstraintHelper, ConditionHelper}
 use Rattle.resolver_clause_store.specs.declared.Requirement.{Requirement}
@@ -60,14 +60,13 @@ abbrev pub IsLeft : {N S : Type 0} → Notes N S → Deferred S → Type 0
 IsLeft notes e = Contains notes.deferred (Some e)
 
 -- the root or the solvable has this requirement, under a condition that holds wherever the disjunct is met
-abbrev pub IsTrueUnder : {N S : Type 0} → Universe N S → By S → List VersionSetId → Requirement → Demands → Type 0
-IsTrueUnder u by disjunct requirement root =
-    (r : ConditionalRequirement) × Contains (demands_by u root by).requirements r × (r.requirement ≡ requirement) ×
-    Implies u (map (matching u) disjunct) r.condition
+abbrev pub IsTrueUnder : {N S : Type 0} → Universe N S → Deferred S → Demands → Type 0
+IsTrueUnder u e root = (r : ConditionalRequirement) × Contains (demands_by u root e.by).requirements r × (r.requirement ≡ e.requirement) ×
+    Implies u (map (matching u) e.disjunct) r.condition
 
 -- a deferred disjunct belongs to a requirement of the problem, and has each version set once
 pub record IsTrueEntry {N S : Type 0} (u : Universe N S) (root : Demands) (e : Deferred S) : Type 0 where
-  pub is_true : IsTrueUnder u e.by e.disjunct e.requirement root
+  pub is_true : IsTrueUnder u e root
   pub once : AreDistinct e.disjunct
 
 -- the clause is a requirement clause
@@ -179,6 +178,10 @@ pub record IsEncodingWhile {N S : Type 0} (u : Universe N S) (doing : Doing N S)
 abbrev pub IsEncoding : {N S : Type 0} → Universe N S → Demands → Notes N S → Type 0
 IsEncoding u root notes = IsEncodingWhile u idle root notes
 
+-- each of these solvables is exempt, or of a package that was not asked
+abbrev pub MayBeExempt : {N S : Type 0} → Universe N S → Notes N S → List S → Type 0
+MayBeExempt {N} {S} u notes solvables = (s : S) → Contains solvables s → Contains notes.exempt s ⊎ (Contains notes.asked (u.name s) → ⊥)
+
 -- the notes are an encoding of a problem for which the premise holds
 pub record IsEncodingOf {N S : Type 0} (u : Universe N S) (Premise : Demands → Type 0) (notes : Notes N S) : Type 0 where
   pub root : Demands
@@ -190,13 +193,21 @@ pub record Extends {X : Type 0} (xs ys : List X) : Type 0 where
   pub more : List X
   pub is : ys ≡ xs ++ more
 
--- The notes grew, and are still right for each problem for which the premise holds. No package was asked, and no
--- candidate registered. Work may be in progress.
-pub record IsStepWhile {N S : Type 0} (u : Universe N S) (doing : Doing N S) (Premise : Demands → Type 0) (old new : Notes N S) : Type 0 where
+-- The notes grew: there may be more variables, clauses, registered candidates and asked packages. The same solvables are
+-- exempt.
+pub record IsGrowth {N S : Type 0} (old new : Notes N S) : Type 0 where
   pub origins : Keeps old.origins new.origins
   pub table : Extends old.table new.table
   pub kinds : IsWithin old.kinds new.kinds
   pub requirements : Extends old.requirements new.requirements
+  pub seen : Extends old.seen new.seen
+  pub asked : IsWithin old.asked new.asked
+  pub exempt : new.exempt ≡ old.exempt
+
+-- The notes grew, and are still right for each problem for which the premise holds. No package was asked, and no
+-- candidate registered. Work may be in progress.
+pub record IsStepWhile {N S : Type 0} (u : Universe N S) (doing : Doing N S) (Premise : Demands → Type 0) (old new : Notes N S) : Type 0 where
+  pub growth : IsGrowth old new
   pub seen : new.seen ≡ old.seen
   pub asked : new.asked ≡ old.asked
   pub helped : IsWithin old.helped new.helped
@@ -205,7 +216,6 @@ pub record IsStepWhile {N S : Type 0} (u : Universe N S) (doing : Doing N S) (Pr
   pub read : new.read ≡ old.read
   pub deferred : new.deferred ≡ old.deferred
   pub deferred_by_name : new.deferred_by_name ≡ old.deferred_by_name
-  pub exempt : new.exempt ≡ old.exempt
   pub keeps : (root : Demands) → Premise root → IsEncodingWhile u doing root old → IsEncodingWhile u doing root new
 
 abbrev pub IsStep : {N S : Type 0} → Universe N S → (Demands → Type 0) → Notes N S → Notes N S → Type 0
@@ -219,17 +229,11 @@ IsFollowed notes (to_see s) = Contains notes.seen s
 -- The notes grew. Only packages and candidates that are called for were asked or registered, and no disjunct was
 -- deferred.
 pub record IsAskStep {N S : Type 0} (u : Universe N S) (Called : Call N S → Type 0) (Premise : Demands → Type 0) (old new : Notes N S) : Type 0 where
-  pub origins : Keeps old.origins new.origins
-  pub table : Extends old.table new.table
-  pub kinds : IsWithin old.kinds new.kinds
-  pub requirements : Extends old.requirements new.requirements
-  pub seen : Extends old.seen new.seen
-  pub asked : IsWithin old.asked new.asked
+  pub growth : IsGrowth old new
   pub called : (call : Call N S) → IsFollowed new call → IsFollowed old call ⊎ Called call
   pub read : new.read ≡ old.read
   pub deferred : new.deferred ≡ old.deferred
   pub deferred_by_name : new.deferred_by_name ≡ old.deferred_by_name
-  pub exempt : new.exempt ≡ old.exempt
   pub keeps : (root : Demands) → Premise root → IsEncoding u root old → IsEncoding u root new
 
 -- a disjunct of this requirer that is not met in the set
@@ -241,17 +245,11 @@ pub record IsUnmet {N S : Type 0} (u : Universe N S) (set : List S) (by : By S) 
 -- were deferred.
 pub record IsReadStep {N S : Type 0} (u : Universe N S) (Defers : Deferred S → Type 0) (Called : Call N S → Type 0) (Premise : Demands → Type 0)
     (old new : Notes N S) : Type 0 where
-  pub origins : Keeps old.origins new.origins
-  pub table : Extends old.table new.table
-  pub kinds : IsWithin old.kinds new.kinds
-  pub requirements : Extends old.requirements new.requirements
-  pub seen : Extends old.seen new.seen
-  pub asked : IsWithin old.asked new.asked
+  pub growth : IsGrowth old new
   pub called : (call : Call N S) → IsFollowed new call → IsFollowed old call ⊎ Called call
   pub read : new.read ≡ old.read
   pub deferred : Extends old.deferred new.deferred
   pub defers : (e : Deferred S) → IsLeft new e → IsLeft old e ⊎ Defers e
-  pub exempt : new.exempt ≡ old.exempt
   pub keeps : (root : Demands) → Premise root → IsEncoding u root old → IsEncoding u root new
 
 -- the limits of variables and clauses stay
@@ -315,17 +313,25 @@ module _ {N S : Type 0} (u : Universe N S) (kinds : List (ClauseKind N S)) where
   abbrev pub IsConstraintRead : By S → VersionSetId → Type 0
   IsConstraintRead by v = All (IsForbidden kinds by v) (others u v)
 
+-- the requirement has its clause under the disjunct, or that is deferred
+abbrev pub IsEntryRead : {N S : Type 0} → Notes N S → Deferred S → Type 0
+IsEntryRead notes e = HasClause notes.kinds e.by e.disjunct e.requirement ⊎ IsLeft notes e
+
 -- the requirement has its clauses under the disjunct, without repeats, or that disjunct is deferred
 pub record IsDisjunctRead {N S : Type 0} (notes : Notes N S) (by : By S) (requirement : Requirement) (list : List VersionSetId) : Type 0 where
   pub kept : List VersionSetId
   pub same : HaveSameMembers kept list
-  pub either : HasClause notes.kinds by kept requirement ⊎ IsLeft notes (record { by = by; disjunct = kept; requirement = requirement })
+  pub either : IsEntryRead notes (record { by = by; disjunct = kept; requirement = requirement })
+
+-- the packages of these version sets were asked
+abbrev pub AreNamesAsked : {N S : Type 0} → Universe N S → Notes N S → List VersionSetId → Type 0
+AreNamesAsked u notes list = All (λ v. Contains notes.asked (u.version_set_name v)) list
 
 -- the demands of the root or of a solvable have their clauses, except for deferred disjuncts
 pub record AreDemandsRead {N S : Type 0} (u : Universe N S) (notes : Notes N S) (by : By S) (demands : Demands) : Type 0 where
   pub requirements : All (IsReadRequirement u notes.kinds (IsLeft notes) by) demands.requirements
   pub constraints : All (IsConstraintRead u notes.kinds by) demands.constraints
-  pub packages : All (λ v. Contains notes.asked (u.version_set_name v)) demands.constraints
+  pub packages : AreNamesAsked u notes demands.constraints
 
 -- the demands of a solvable have their clauses; if they are unknown, a clause excludes the solvable
 abbrev pub AreNeedsRead : {N S : Type 0} → Universe N S → Notes N S → S → Needs → Type 0
@@ -354,3 +360,13 @@ HasRequirement u by r root = Contains (demands_by u root by).requirements r
 
 abbrev pub HasConstraint : {N S : Type 0} → Universe N S → By S → VersionSetId → Demands → Type 0
 HasConstraint u by v root = Contains (demands_by u root by).constraints v
+
+-- the same for a requirement of a solvable without a condition, and for each of some requirements or constraints
+abbrev pub HasPlainRequirement : {N S : Type 0} → Universe N S → S → Requirement → Demands → Type 0
+HasPlainRequirement u s r root = HasRequirement u (BySolvable s) (record { condition = None; requirement = r }) root
+
+abbrev pub HasRequirements : {N S : Type 0} → Universe N S → By S → List ConditionalRequirement → Demands → Type 0
+HasRequirements u by rs root = All (λ r. HasRequirement u by r root) rs
+
+abbrev pub HasConstraints : {N S : Type 0} → Universe N S → By S → List VersionSetId → Demands → Type 0
+HasConstraints u by vs root = All (λ v. HasConstraint u by v root) vs

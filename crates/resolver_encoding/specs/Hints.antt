@@ -4,7 +4,7 @@ use Rattle.std.specs.Option.{option_map_or, option_to_list}
 use Rattle.resolver_clause_store.specs.Caches.{Covers}
 use Rattle.resolver_clause_store.specs.Formula.{clause_at}
 use Rattle.resolver_clause_store.specs.Universe.{Universe, hint_none}
-use Rattle.resolver_clause_store.specs.declared.Literal.{Literal}
+use Rattle.resolver_clause_store.specs.Literals.{Literal}
 use Rattle.resolver_clause_store.specs.declared.Origin.{Origin}
 use Rattle.resolver_encoding.specs.Encodings.{Notes}
 use Rattle.resolver_encoding.specs.Trails.{solvable_found}

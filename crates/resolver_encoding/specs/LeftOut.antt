@@ -1,7 +1,7 @@
 -- Solvables that the chosen set leaves no room for.
 use Rattle.std.specs.Prelude.{◌≡◌, ℕ, Bool, true, false, Contains, List, Some, slice_get}
 use Rattle.resolver_clause_store.specs.Formula.{Satisfies}
-use Rattle.resolver_clause_store.specs.declared.Literal.{Literal}
+use Rattle.resolver_clause_store.specs.Literals.{Literal}
 use Rattle.resolver_clause_store.specs.declared.Origin.{Origin}
 use Rattle.resolver_clause_store.specs.declared.Origin.TheVariants.{Solvable}
 

@@ -20,7 +20,5 @@ pub mod Reach
 pub mod SoFar
 pub mod Turns
 pub mod LeftOut
-pub mod Kinds
-pub mod Runs
-pub mod LongerRuns
-pub mod ClauseRuns
+pub mod Steps
+pub mod DemandsView

@@ -18,7 +18,7 @@ abbrev pub table_in : {N S : Type 0} → ClauseTable N S → Table N S
 table_in t = record {
   origins = origins_in t.variables;
   literals = t.literals;
-  kinds = t.kinds;
+  kinds = t.kinds.items;
   requirements = map (λ (r : RequirementClause). r.number) t.requirements.items;
   variable_limit = limit_in t.variables;
   clause_limit = t.clause_limit;
@@ -28,7 +28,7 @@ abbrev pub notes_in : {N S : Type 0} → Encoding N S → Notes N S
 notes_in e = record {
   origins = origins_in e.table.variables;
   table = e.table.literals;
-  kinds = e.table.kinds;
+  kinds = e.table.kinds.items;
   requirements = map (λ (r : RequirementClause). r.number) e.table.requirements.items;
   seen = e.seen.keys;
   groups = e.groups;

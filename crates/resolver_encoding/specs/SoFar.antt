@@ -3,16 +3,14 @@ use Rattle.std.specs.Prelude.{Bool, true, false, ℕ, ◌≡◌, ◌<◌, ◌⊎
 use Rattle.std.specs.Prelude.{slice_set}
 use Rattle.resolver_clause_store.specs.Universe.{Universe, Demands}
 use Rattle.resolver_clause_store.specs.Candidates.{matching}
-use Rattle.resolver_clause_store.specs.Lists.{IsWithin}
 use Rattle.resolver_clause_store.specs.Near.{IsNear}
 use Rattle.resolver_clause_store.specs.Valid.{demands_of}
-use Rattle.resolver_clause_store.specs.Variables.{Keeps}
 use Rattle.resolver_clause_store.specs.declared.VersionSetId.{VersionSetId}
 use Rattle.resolver_clause_store.specs.declared.By.TheVariants.{Root as ByRoot}
 use Rattle.resolver_clause_store.specs.declared.Origin.TheVariants.{Solvable}
 use Rattle.resolver_clause_store.specs.Statements.{IsPresent, AllMeet}
 use Rattle.resolver_encoding.specs.Called.{Call, IsDemanded, IsWantedBy}
-use Rattle.resolver_encoding.specs.Encodings.{AreDemandsRead, AreNeedsRead, Extends, IsEncoding, IsFollowed, IsLeft, Notes}
+use Rattle.resolver_encoding.specs.Encodings.{AreDemandsRead, AreNeedsRead, Extends, IsEncoding, IsFollowed, IsGrowth, IsLeft, Notes}
 use Rattle.resolver_encoding.specs.Groups.{AreGroups, IsNamed}
 use Rattle.resolver_encoding.specs.Hints.{IsListedFrom}
 use Rattle.resolver_encoding.specs.Reach.{AreNear}
@@ -21,12 +19,16 @@ use Rattle.resolver_encoding.specs.declared.groups.Groups.{Groups}
 use Rattle.resolver_encoding.specs.declared.progress.Progress.{Progress}
 use Rattle.resolver_encoding.specs.declared.progress.Progress.TheVariants.{Nothing, Fired, Read}
 
+-- each solvable that was read has a variable
+abbrev pub HasReadKnown : {N S : Type 0} → Notes N S → Type 0
+HasReadKnown {N} {S} notes = (s : S) → Contains notes.read s → Contains notes.origins (Solvable s)
+
 -- the notes are an encoding, and the root and each solvable that was read have their clauses or deferred disjuncts
 pub record IsHalfRead {N S : Type 0} (u : Universe N S) (root : Demands) (notes : Notes N S) : Type 0 where
   pub encoding : IsEncoding u root notes
   pub root_read : AreDemandsRead u notes ByRoot root
   pub each_read : (s : S) → Contains notes.read s → AreNeedsRead u notes s (u.needs s)
-  pub read_known : (s : S) → Contains notes.read s → Contains notes.origins (Solvable s)
+  pub read_known : HasReadKnown notes
   pub left_read : (e : Deferred S) → IsLeft notes e → IsPresent e.by notes.read
 
 -- besides, each solvable of the set was read, and no deferred disjunct is met in the set
@@ -51,10 +53,7 @@ left_count notes = count_by is_some notes.deferred
 -- What one more reading does. It reads new solvables of the set and candidates of new requirement clauses, and no
 -- others. It removes a deferred disjunct only if that is met in the set.
 pub record IsReadMore {N S : Type 0} (u : Universe N S) (set : List S) (old new : Notes N S) : Type 0 where
-  pub origins : Keeps old.origins new.origins
-  pub table : Extends old.table new.table
-  pub requirements : Extends old.requirements new.requirements
-  pub seen : Extends old.seen new.seen
+  pub growth : IsGrowth old new
   pub read : Extends old.read new.read
   pub reads : (s : S) → Contains new.read s → Contains old.read s ⊎ (Contains set s ⊎ IsListedFrom new (length old.requirements) s)
   pub taken : (i : ℕ) (e : Deferred S) → slice_get old.deferred i ≡ Some (Some e) → (slice_get new.deferred i ≡ Some (Some e)) ⊎
@@ -123,12 +122,7 @@ pub record IsQuietUnder {N S : Type 0} (u : Universe N S) (set : List S) (notes 
 -- Disjuncts that are met in the set were removed, and each has its clause. Only packages of their requirements were
 -- asked, and only candidates of these registered.
 pub record IsFiring {N S : Type 0} (u : Universe N S) (set : List S) (old new : Notes N S) : Type 0 where
-  pub origins : Keeps old.origins new.origins
-  pub table : Extends old.table new.table
-  pub kinds : IsWithin old.kinds new.kinds
-  pub requirements : Extends old.requirements new.requirements
-  pub seen : Extends old.seen new.seen
-  pub asked : IsWithin old.asked new.asked
+  pub growth : IsGrowth old new
   pub called : (call : Call N S) → IsFollowed new call → IsFollowed old call ⊎
       ((e : Deferred S) × IsLeft old e × AllMeet set (map (matching u) e.disjunct) × IsWantedBy u e.requirement call)
   pub read : new.read ≡ old.read
@@ -136,23 +130,17 @@ pub record IsFiring {N S : Type 0} (u : Universe N S) (set : List S) (old new : 
   pub stays : (i : ℕ) (e : Deferred S) → slice_get new.deferred i ≡ Some (Some e) → slice_get old.deferred i ≡ Some (Some e)
   pub taken : (i : ℕ) (e : Deferred S) → slice_get old.deferred i ≡ Some (Some e) → (slice_get new.deferred i ≡ Some (Some e)) ⊎
       (AllMeet set (map (matching u) e.disjunct) × HasClause new.kinds e.by e.disjunct e.requirement)
-  pub exempt : new.exempt ≡ old.exempt
   pub keeps : (root : Demands) → IsEncoding u root old → IsEncoding u root new
 
 -- Such solvables were read. Only packages and candidates that they demand in the set were asked or registered, and only
 -- disjuncts that are not met in it were deferred.
 pub record IsReadingOf {N S : Type 0} (u : Universe N S) (set : List S) (Reads : S → Type 0) (old new : Notes N S) : Type 0 where
-  pub origins : Keeps old.origins new.origins
-  pub table : Extends old.table new.table
-  pub requirements : Extends old.requirements new.requirements
-  pub seen : Extends old.seen new.seen
-  pub asked : IsWithin old.asked new.asked
+  pub growth : IsGrowth old new
   pub called : (call : Call N S) → IsFollowed new call → IsFollowed old call ⊎ ((s : S) × Contains new.read s × IsDemanded u set (demands_of (u.needs s)) call)
   pub read : Extends old.read new.read
   pub reads : (s : S) → Contains new.read s → Contains old.read s ⊎ Reads s
   pub deferred : Extends old.deferred new.deferred
   pub unmet : (e : Deferred S) → IsLeft new e → IsLeft old e ⊎ (AllMeet set (map (matching u) e.disjunct) → ⊥)
-  pub exempt : new.exempt ≡ old.exempt
   pub keeps : (root : Demands) → IsHalfRead u root old → IsHalfRead u root new
 
 -- the notes have nothing but the root

@@ -10,7 +10,7 @@ use resolver_clause_store::{
     Cache, DependencyProvider, Exhausted, Interner, Interrupted, Requirement, VersionSetId,
     requirement_candidates,
 };
-use std::alloc::{AllocError, Global};
+use std::alloc::Global;
 use std::hash::Hash;
 
 /// The candidates of a requirement.
@@ -109,22 +109,12 @@ fn counts_of<D: DependencyProvider>(
     counts
 }
 
-/// Replaces the items of a list, and keeps its block of memory.
-fn refilled<S: Copy + Drop>(mut list: Vec<S>, items: &[S]) -> Result<Vec<S>, AllocError>
-    ensures { IfOk result (λ filled. filled.items ≡ items.now) }
-{
-    list.clear();
-    list.extend_from_slice(items)?;
-    Ok(list)
-}
-
-/// Returns the candidates of a requirement. Those of a single version set take the place of the items of `list`.
+/// Returns the candidates of a requirement.
 pub(crate) fn choices_of<D: DependencyProvider>(
     alloc: Global,
     provider: &D,
     cache: &mut Cache<D::NameId, D::SolvableId>,
     requirement: Requirement,
-    list: Vec<D::SolvableId>,
 ) -> Result<Choices<D::SolvableId>, Interrupted<D::Cancel>>
     requires is_true { IsTrueCache (D.universe provider.now) cache.old }
     ensures is_true { IsTrueCache (D.universe provider.now) cache.new }
@@ -132,16 +122,13 @@ pub(crate) fn choices_of<D: DependencyProvider>(
     ensures small { IfOk result (λ choices. All (λ n. n < 2 ^ 63) choices.counts.items) }
     ensures refusal { IfErr result (IsInterruption (D.may_cancel provider.now)) }
 {
+    let candidates = requirement_candidates(cache, provider, requirement)?;
     match requirement {
-        Requirement::Single(version_set) => {
-            cache.fetch_sorted(provider, version_set)?;
-            Ok(Choices {
-                candidates: refilled(list, cache.sorted(version_set))?,
-                counts: Vec::new(alloc),
-            })
-        }
+        Requirement::Single(_) => Ok(Choices {
+            candidates,
+            counts: Vec::new(alloc),
+        }),
         Requirement::Union(union) => {
-            let candidates = requirement_candidates(cache, provider, requirement)?;
             let counts = counts_of(
                 alloc,
                 provider,

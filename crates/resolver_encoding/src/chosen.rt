@@ -20,10 +20,7 @@ fn is_true_at(trail: &Trail, place: usize) -> bool
     requires { place < length_of trail.now }
     ensures { result ≡ value_of trail.now (variable_at trail.now place) }
 {
-    let literal = Literal {
-        variable: trail.variable_at(place),
-        positive: true,
-    };
+    let literal = Literal::new(trail.variable_at(place), true);
     match trail.value(literal) {
         Some(value) => value,
         None => false,
@@ -54,8 +51,8 @@ fn solvable_at<N: Copy + Eq + Hash + Drop, S: Copy + Eq + Hash + Drop>(
     place: usize,
 ) -> Option<S>
     requires { place < length_of trail.now }
-    ensures { option_to_list result ≡ solvable_if (origin_at (origins_in variables.now) (variable_at trail.now place))
-        (value_of trail.now (variable_at trail.now place)) }
+    ensures { let v = variable_at trail.now place in
+        option_to_list result ≡ solvable_if (origin_at (origins_in variables.now) v) (value_of trail.now v) }
 {
     if !is_true_at(trail, place) {
         return None;
@@ -150,8 +147,8 @@ impl<S: Copy + Eq + Hash + Drop> Chosen<S> {
 
     /// Forgets the entries from a place on.
     pub fn cut<N>(&mut self, kept: usize)
-        ensures { (origins : List (OriginOf N S)) (trail : TrailOf) (count : ℕ) → Follows self.old origins trail count → kept ≤ count →
-            Follows self.new origins trail kept }
+        ensures { (origins : List (OriginOf N S)) (trail : TrailOf) (n : ℕ) →
+            Follows self.old origins trail n → kept ≤ n → Follows self.new origins trail kept }
     {
         if kept >= self.counts.len() {
             return;
@@ -172,8 +169,8 @@ impl<S: Copy + Eq + Hash + Drop> Chosen<S> {
         requires distinct { AreDistinct (origins_in variables.now) }
         requires size { variable_count trail.now ≡ length (origins_in variables.now) }
         requires inside { place < length_of trail.now }
-        ensures follows { OnOk result (Follows self.old (origins_in variables.now) trail.now place →
-            Follows self.new (origins_in variables.now) trail.now (place + 1)) }
+        ensures follows { let o = origins_in variables.now in OnOk result
+            (Follows self.old o trail.now place → Follows self.new o trail.now (place + 1)) }
         ensures more { OnOk result (Extends (chosen_in self.old) (chosen_in self.new)) }
         ensures memory { IfErr result (λ e. e ≡ Exhausted.Memory) }
     {
@@ -194,8 +191,8 @@ impl<S: Copy + Eq + Hash + Drop> Chosen<S> {
         requires identity { IsIdentity S.eq }
         requires distinct { AreDistinct (origins_in variables.now) }
         requires size { variable_count trail.now ≡ length (origins_in variables.now) }
-        ensures follows { OnOk result ((count : ℕ) → Follows self.old (origins_in variables.now) trail.now count →
-            Follows self.new (origins_in variables.now) trail.now (length_of trail.now)) }
+        ensures follows { let o = origins_in variables.now in let t = trail.now in OnOk result
+            ((n : ℕ) → Follows self.old o t n → Follows self.new o t (length_of t)) }
         ensures more { OnOk result (Extends (chosen_in self.old) (chosen_in self.new)) }
         ensures memory { IfErr result (λ e. e ≡ Exhausted.Memory) }
     {

@@ -20,20 +20,6 @@ pub fn has_digit(number: usize, index: u32) -> bool
     (number >> index) % 2 == 1
 }
 
-/// Returns the digits of a number below one, and this value for that one. Higher digits are not set.
-pub(crate) fn with_digit(number: u32, index: u32, value: bool) -> u32
-    requires { index < 32 }
-    ensures lower { (i : ℕ) → i < index → bit result i ≡ bit number i }
-    ensures digit { bit result index ≡ value }
-{
-    let digit = 1 << index;
-    let lower = number % digit;
-    if value {
-        return lower + digit;
-    }
-    lower
-}
-
 /// Returns the digit that a number has and no smaller number has, if any.
 pub(crate) fn new_digit(number: usize) -> Option<u32>
     ensures { MatchOption result ((i : ℕ) → number ≢ 2 ^ i) (λ i. number ≡ 2 ^ i) }

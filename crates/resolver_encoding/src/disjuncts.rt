@@ -10,6 +10,7 @@ ghost use Rattle.resolver_clause_store.specs.Candidates.{matching};
 ghost use Rattle.resolver_clause_store.specs.Interruptions.{IsInterruption};
 ghost use Rattle.resolver_clause_store.specs.Laws.{IsIdentity};
 ghost use Rattle.resolver_clause_store.specs.Statements.{AllMeet};
+ghost use Rattle.resolver_encoding.specs.Steps.{Tells};
 
 use indexmap::IndexSet;
 use resolver_clause_store::{
@@ -103,9 +104,7 @@ fn is_matched<D: DependencyProvider>(
 ) -> Result<bool, Interrupted<D::Cancel>>
     requires is_true { IsTrueCache (D.universe provider.now) cache.old }
     ensures is_true { IsTrueCache (D.universe provider.now) cache.new }
-    ensures matched { IfOk result (λ met.
-        MatchBool met (Meets (matching (D.universe provider.now) version_set) chosen.now.keys)
-        (Meets (matching (D.universe provider.now) version_set) chosen.now.keys → ⊥)) }
+    ensures matched { IfOk result (Tells (Meets (matching (D.universe provider.now) version_set) chosen.now.keys)) }
     ensures refusal { IfErr result (IsInterruption (D.may_cancel provider.now)) }
 {
     cache.fetch_matching(provider, version_set)?;
@@ -139,9 +138,7 @@ pub(crate) fn is_met<D: DependencyProvider>(
 ) -> Result<bool, Interrupted<D::Cancel>>
     requires is_true { IsTrueCache (D.universe provider.now) cache.old }
     ensures is_true { IsTrueCache (D.universe provider.now) cache.new }
-    ensures met { IfOk result (λ met.
-        MatchBool met (AllMeet chosen.now.keys (map (matching (D.universe provider.now)) disjunct.now))
-        (AllMeet chosen.now.keys (map (matching (D.universe provider.now)) disjunct.now) → ⊥)) }
+    ensures met { IfOk result (Tells (AllMeet chosen.now.keys (map (matching (D.universe provider.now)) disjunct.now))) }
     ensures refusal { IfErr result (IsInterruption (D.may_cancel provider.now)) }
 {
     read_candidates(provider, cache, disjunct)?;

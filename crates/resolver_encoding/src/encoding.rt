@@ -20,14 +20,13 @@ mod requirements;
 mod turns;
 
 use crate::choices::Choices;
-use crate::clause_runs::ClauseRuns;
 use crate::disjuncts::Entry;
 use crate::groups::Groups;
-use crate::kinds::ClauseKinds;
 use crate::table::ClauseTable;
 use indexmap::IndexSet;
 use resolver_clause_store::{
-    ClauseKind, Exhausted, Requirement, RequirementClause, UnionEnds, Variables, VersionSetId,
+    ClauseKind, Clauses, Exhausted, Requirement, RequirementClause, UnionEnds, Variables,
+    VersionSetId,
 };
 use std::alloc::Global;
 use std::hash::Hash;
@@ -47,8 +46,6 @@ pub struct Encoding<N: Copy + Eq + Hash + Drop, S: Copy + Eq + Hash + Drop> {
     deferred: Vec<Option<Entry<S>>>,
     deferred_by_name: Groups<N, usize>,
     exempt: IndexSet<S>,
-    /// A list without meaning. The next list of candidates takes its block of memory.
-    spare: Vec<S>,
 }
 
 impl<N: Copy + Eq + Hash + Drop, S: Copy + Eq + Hash + Drop> Encoding<N, S> {
@@ -75,7 +72,6 @@ impl<N: Copy + Eq + Hash + Drop, S: Copy + Eq + Hash + Drop> Encoding<N, S> {
             deferred: Vec::new(alloc),
             deferred_by_name: Groups::new(alloc),
             exempt: IndexSet::new(alloc),
-            spare: Vec::new(alloc),
         }
     }
 
@@ -108,14 +104,14 @@ impl<N: Copy + Eq + Hash + Drop, S: Copy + Eq + Hash + Drop> Encoding<N, S> {
     }
 
     /// Returns the kinds of the clauses, by their numbers.
-    pub fn kinds(&self) -> &ClauseKinds<N, S>
+    pub fn kinds(&self) -> &[ClauseKind<N, S>]
         ensures { result.now ≡ (notes_in self.now).kinds }
     {
         self.table.kinds()
     }
 
     /// Returns the literals of the clauses, by their numbers.
-    pub fn literals(&self) -> &ClauseRuns
+    pub fn literals(&self) -> &Clauses
         ensures { result.now ≡ (notes_in self.now).table }
     {
         self.table.literals()

@@ -1,7 +1,6 @@
 //! The rules that clauses state.
 
-ghost use Rattle.std.specs.Prelude.{All, IfErr, IfOk, OnOk, [], length, map, slice_index_or, ◌<◌, ◌≡◌};
-ghost use Rattle.resolver_clause_store.specs.declared.ClauseKind.TheVariants.{InstallRoot};
+ghost use Rattle.std.specs.Prelude.{All, IfErr, IfOk, OnOk, [], length, map, ◌<◌, ◌≡◌};
 ghost use Rattle.resolver_clause_store.specs.Caches.{IsTrueCache};
 ghost use Rattle.resolver_clause_store.specs.Candidates.{matching, requirement_candidates as candidates_of};
 ghost use Rattle.resolver_clause_store.specs.Interruptions.{IsInterruption};
@@ -14,7 +13,6 @@ ghost use Rattle.resolver_clause_store.specs.Statements.{constrains, requires};
 ghost use Rattle.resolver_encoding.specs.Truth.{AreListed, AreStated};
 ghost use Rattle.resolver_encoding.specs.Values.{kinds_at};
 
-use crate::kinds::ClauseKinds;
 use crate::listing::Listing;
 use crate::sources::{Sources, sources_of};
 use resolver_clause_store::{
@@ -159,25 +157,16 @@ fn add_rules<D: DependencyProvider>(
             Ok(())
         }
         ClauseKind::GateRequires { requirement } => {
-            add_gate(
-                provider,
-                cache,
-                listing,
-                sources.requirers(*requirement),
-                *requirement,
-            )?;
+            let requirers = sources.requirers(*requirement);
+            add_gate(provider, cache, listing, requirers, *requirement)?;
             Ok(())
         }
         ClauseKind::ConstrainsParent {
             parent,
             version_set,
         } => {
-            constrain_each(
-                listing,
-                *parent,
-                *version_set,
-                sources.excluded(*version_set),
-            )?;
+            let excluded = sources.excluded(*version_set);
+            constrain_each(listing, *parent, *version_set, excluded)?;
             Ok(())
         }
         ClauseKind::Lock { locked, forbidden } => {
@@ -257,29 +246,6 @@ fn add_stated<D: DependencyProvider>(
     Ok(())
 }
 
-/// Adds the rules that the clause with this number states.
-fn add_clause<D: DependencyProvider>(
-    provider: &D,
-    cache: &mut Cache<D::NameId, D::SolvableId>,
-    sources: &Sources<D::SolvableId>,
-    listing: &mut Listing<D::NameId, D::SolvableId>,
-    kinds: &ClauseKinds<D::NameId, D::SolvableId>,
-    number: usize,
-) -> Result<(), Interrupted<D::Cancel>>
-    requires is_true { IsTrueCache (D.universe provider.now) cache.old }
-    requires groups { HasGroups sources.now }
-    requires instances { HasInstances listing.old }
-    requires within { number < length kinds.now }
-    ensures is_true { IsTrueCache (D.universe provider.now) cache.new }
-    ensures added { OnOk result (AddsRules (States (D.universe provider.now) sources.now (slice_index_or kinds.now number InstallRoot)) listing.old
-        listing.new) }
-    ensures refusal { IfErr result (IsInterruption (D.may_cancel provider.now)) }
-{
-    let kind = kinds.at(listing.allocator(), number)?;
-    add_stated(provider, cache, sources, listing, &kind)?;
-    Ok(())
-}
-
 /// Returns the rules that the clauses with these numbers state, in the order of the numbers.
 ///
 /// No rule names a helper: the rule of a gate or of a constraint helper is stated for each solvable that implies it by
@@ -288,7 +254,7 @@ pub fn rules_of_clauses<D: DependencyProvider>(
     alloc: Global,
     provider: &D,
     cache: &mut Cache<D::NameId, D::SolvableId>,
-    kinds: &ClauseKinds<D::NameId, D::SolvableId>,
+    kinds: &[ClauseKind<D::NameId, D::SolvableId>],
     numbers: &[usize],
 ) -> Result<Vec<Rule<D::NameId, D::SolvableId>>, Interrupted<D::Cancel>>
     requires is_true { IsTrueCache (D.universe provider.now) cache.old }
@@ -303,7 +269,7 @@ pub fn rules_of_clauses<D: DependencyProvider>(
     let sources = sources_of(alloc, kinds, numbers)?;
     let mut listing = Listing::new(alloc);
     for number in numbers {
-        add_clause(provider, cache, &sources, &mut listing, kinds, *number)?;
+        add_stated(provider, cache, &sources, &mut listing, &kinds[*number])?;
     }
     Ok(listing.into_rules())
 }

@@ -9,7 +9,7 @@ ghost use Rattle.resolver_clause_store.specs.TrailView.{KeepsPlaces, length_of, 
 ghost use Rattle.resolver_clause_store.specs.Variables.{AreDistinct, Keeps};
 ghost use Rattle.resolver_clause_store.specs.declared.RequirementClause.{RequirementClause};
 ghost use Rattle.resolver_clause_store.specs.declared.Trail.{Trail};
-ghost use Rattle.resolver_encoding.specs.Encodings.{IsEncoding, Notes};
+ghost use Rattle.resolver_encoding.specs.Encodings.{IsEncoding, MayBeExempt, Notes};
 ghost use Rattle.resolver_encoding.specs.SoFar.{IsReadSoFar};
 ghost use Rattle.resolver_encoding.specs.Trails.{AreAssumed, Follows, solvables_before};
 ghost use Rattle.resolver_encoding.specs.declared.chosen.Chosen.{Chosen};
@@ -17,7 +17,7 @@ ghost use Rattle.resolver_clause_store.specs.Laws.{HasLawfulPackages, IsIdentity
 ghost use Rattle.resolver_clause_store.specs.Universe.{Demands, Universe};
 ghost use Rattle.resolver_clause_store.specs.Valid.{IsValid};
 ghost use Rattle.resolver_clause_store.specs.declared.ClauseKind.{ClauseKind};
-ghost use Rattle.resolver_clause_store.specs.declared.Literal.{Literal};
+ghost use Rattle.resolver_clause_store.specs.Literals.{Literal};
 ghost use Rattle.resolver_clause_store.specs.declared.Origin.{Origin};
 ghost use Rattle.resolver_clause_store.specs.declared.Rule.{Rule};
 ghost use Rattle.resolver_encoding.specs.Atoms.{Atom};
@@ -28,16 +28,15 @@ ghost use Rattle.resolver_encoding.specs.TrailAtoms.{CoversReached, IsAnswerBy, 
 ghost use Rattle.resolver_encoding.specs.Truth.{HasLawfulSolvables, AreCodes, AreListed, AreStated, IsTrueClause, Spares, follows};
 ghost use Rattle.resolver_encoding.specs.Values.{AreEncoded, extension, kinds_at};
 
-/// The extension of an answer satisfies every true clause, if no lock and no exclusion forbids an exempt solvable.
+/// The extension of a valid set satisfies every clause of an encoding. Exempt may be what is exempt now, and any other
+/// solvable of a package that was not asked.
 ///
 /// The extension is the values that a set gives to variables: a solvable is true if it is in the set, and a helper if a
 /// member implies it. The call does nothing: its contract is the law.
-pub fn answers_satisfy_true_clauses<N, S>()
-    ensures { (u : Universe N S) (codes : N → ℕ → S → Bool) (root : Demands) (origins : List (Origin N S)) (table : List (List Literal))
-        (kinds : List (ClauseKind N S)) (set exempt : List S) →
-        HasLawfulSolvables u → AreCodes u codes → AreEncoded u origins table kinds → All (IsTrueClause u codes root) kinds →
-        Spares u exempt kinds → IsValid u root set exempt →
-        Satisfies (extension u (follows u codes) origins set) table }
+pub fn valid_sets_satisfy_encodings<N, S>()
+    ensures { (u : Universe N S) (root : Demands) (notes : Notes N S) (set exempt : List S) →
+        HasLawfulSolvables u → (encoding : IsEncoding u root notes) → MayBeExempt u notes exempt → IsValid u root set exempt →
+        Satisfies (extension u (follows u encoding.codes) notes.origins set) notes.table }
 {}
 
 /// If no values make some true clauses true together, the rules that these clauses state are true, and no set obeys

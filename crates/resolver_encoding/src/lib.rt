@@ -4,31 +4,25 @@
 
 mod choices;
 mod chosen;
-mod clause_runs;
 mod codes;
 mod disjuncts;
 mod encoding;
 mod explain;
 mod groups;
-mod kinds;
 mod laws;
 mod listing;
 mod literals;
 mod progress;
-mod runs;
 mod sources;
 mod table;
 
 pub use chosen::Chosen;
-pub use clause_runs::ClauseRuns;
 pub use codes::{digit_count, has_digit};
 pub use encoding::Encoding;
 pub use explain::rules_of_clauses;
-pub use kinds::ClauseKinds;
 pub use laws::{
-    answers_satisfy_true_clauses, chosen_lists_stay, core_rules_explain,
-    cores_of_encodings_explain, finished_searches_answer_first_choices,
-    finished_searches_are_answers, finished_trails_are_answers, read_trails_are_answers,
+    chosen_lists_stay, core_rules_explain, cores_of_encodings_explain,
+    finished_searches_answer_first_choices, finished_searches_are_answers,
+    finished_trails_are_answers, read_trails_are_answers, valid_sets_satisfy_encodings,
 };
 pub use progress::Progress;
-pub use runs::Runs;

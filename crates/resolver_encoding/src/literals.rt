@@ -145,7 +145,7 @@ fn push_literal<N: Copy + Eq + Hash + Drop, S: Copy + Eq + Hash + Drop>(
     ensures refusal { IfErr result (IsShortage (AreFull variables.new)) }
 {
     let variable = variables.intern(origin)?;
-    literals.push(Literal { variable, positive })?;
+    literals.push(Literal::new(variable, positive))?;
     Ok(())
 }
 

@@ -1,13 +1,12 @@
 //! The solvables that imply helpers.
 
-ghost use Rattle.std.specs.Prelude.{◌≡◌, ◌++◌, ◌∷◌, ◌<◌, [], All, Contains, IfErr, IfOk, List, OnOk, length, slice_index_or};
+ghost use Rattle.std.specs.Prelude.{◌≡◌, ◌++◌, ◌∷◌, ◌<◌, [], All, Contains, IfErr, IfOk, List, OnOk, length};
 ghost use Rattle.resolver_clause_store.specs.declared.ClauseKind.{ClauseKind as Kind};
-ghost use Rattle.resolver_clause_store.specs.declared.ClauseKind.TheVariants.{AnyOf, InstallRoot};
+ghost use Rattle.resolver_clause_store.specs.declared.ClauseKind.TheVariants.{AnyOf};
 ghost use Rattle.resolver_encoding.specs.Sources.{AreSources};
 ghost use Rattle.resolver_encoding.specs.Values.{kinds_at};
 
 use crate::groups::Groups;
-use crate::kinds::ClauseKinds;
 use resolver_clause_store::{ClauseKind, Exhausted, Origin, Requirement, VersionSetId};
 use std::alloc::Global;
 
@@ -77,29 +76,10 @@ impl<S: Copy + Drop> Sources<S> {
         }
     }
 
-    /// Notes the clause with this number.
-    fn note_at<N: Copy + Drop>(
-        &mut self,
-        alloc: Global,
-        kinds: &ClauseKinds<N, S>,
-        number: usize,
-    ) -> Result<(), Exhausted>
-        requires { number < length kinds.now }
-        ensures noted { OnOk result ((noted : List (Kind N S)) → AreSources noted self.old → AreSources (noted ++ slice_index_or kinds.now number InstallRoot ∷ [])
-            self.new) }
-        ensures memory { IfErr result (λ e. e ≡ Exhausted.Memory) }
-    {
-        let kind = kinds.at(alloc, number)?;
-        let noted = self.note(&kind);
-        drop(kind);
-        noted
-    }
-
     /// Notes the clauses with these numbers.
-    fn note_all<N: Copy + Drop>(
+    fn note_all<N>(
         &mut self,
-        alloc: Global,
-        kinds: &ClauseKinds<N, S>,
+        kinds: &[ClauseKind<N, S>],
         numbers: &[usize],
     ) -> Result<(), Exhausted>
         requires within { All (λ n. n < length kinds.now) numbers.now }
@@ -108,16 +88,16 @@ impl<S: Copy + Drop> Sources<S> {
         ensures memory { IfErr result (λ e. e ≡ Exhausted.Memory) }
     {
         for number in numbers {
-            self.note_at(alloc, kinds, *number)?;
+            self.note(&kinds[*number])?;
         }
         Ok(())
     }
 }
 
 /// Returns the sources that the clauses with these numbers name.
-pub(crate) fn sources_of<N: Copy + Drop, S: Copy + Drop>(
+pub(crate) fn sources_of<N, S: Copy + Drop>(
     alloc: Global,
-    kinds: &ClauseKinds<N, S>,
+    kinds: &[ClauseKind<N, S>],
     numbers: &[usize],
 ) -> Result<Sources<S>, Exhausted>
     requires within { All (λ n. n < length kinds.now) numbers.now }
@@ -128,6 +108,6 @@ pub(crate) fn sources_of<N: Copy + Drop, S: Copy + Drop>(
         gates: Groups::new(alloc),
         helpers: Groups::new(alloc),
     };
-    sources.note_all(alloc, kinds, numbers)?;
+    sources.note_all(kinds, numbers)?;
     Ok(sources)
 }

@@ -11,17 +11,14 @@ ghost use Rattle.resolver_encoding.specs.Tables.{HasAdded, IsTableFull, with_num
 ghost use Rattle.resolver_encoding.specs.Values.{IsClauseOf};
 
 use crate::choices::{Choices, places_behind};
-use crate::clause_runs::ClauseRuns;
-use crate::kinds::ClauseKinds;
 use crate::literals::{
     count_of, depends_on, first_of, push_candidates, push_front, push_helpers, second_of,
 };
 use resolver_clause_store::{
-    By, ClauseKind, Exhausted, Literal, RequirementClause, UnionEnds, Variables, narrow,
+    By, ClauseKind, Clauses, Exhausted, Literal, RequirementClause, UnionEnds, Variables, narrow,
 };
 use std::alloc::Global;
 use std::hash::Hash;
-use std::mem::replace;
 
 /// The clauses, and the origin of each variable.
 ///
@@ -30,14 +27,12 @@ use std::mem::replace;
 pub(crate) struct ClauseTable<N: Copy + Eq + Hash + Drop, S: Copy + Eq + Hash + Drop> {
     alloc: Global,
     pub(crate) variables: Variables<N, S>,
-    kinds: ClauseKinds<N, S>,
-    literals: ClauseRuns,
+    kinds: Vec<ClauseKind<N, S>>,
+    literals: Clauses,
     requirements: Vec<RequirementClause>,
     /// For the unions among the requirement clauses, by the numbers of the clauses.
     union_ends: UnionEnds,
     clause_limit: usize,
-    /// Memory for the literals of the next clause. Its items mean nothing.
-    spare: Vec<Literal>,
 }
 
 /// Returns the entry of a requirement clause, or `None` for a clause of another kind.
@@ -79,12 +74,11 @@ impl<N: Copy + Eq + Hash + Drop, S: Copy + Eq + Hash + Drop> ClauseTable<N, S> {
         ClauseTable {
             alloc,
             variables: Variables::new(alloc, variable_limit),
-            kinds: ClauseKinds::new(alloc),
-            literals: ClauseRuns::new(alloc),
+            kinds: Vec::new(alloc),
+            literals: Clauses::new(alloc),
             requirements: Vec::new(alloc),
             union_ends: UnionEnds::new(alloc),
             clause_limit,
-            spare: Vec::new(alloc),
         }
     }
 
@@ -139,11 +133,9 @@ impl<N: Copy + Eq + Hash + Drop, S: Copy + Eq + Hash + Drop> ClauseTable<N, S> {
         ensures clauses { (table_in self.new).clause_limit ≡ (table_in self.old).clause_limit }
         ensures refusal { IfErr result (IsShortage (IsFull self.new.variables)) }
     {
-        let mut literals = replace(&mut self.spare, Vec::new(self.alloc));
-        literals.clear();
+        let mut literals = Vec::new(self.alloc);
         let ends = self.push_literals(&kind, choices, &mut literals)?;
         self.put(kind, &literals, ends)?;
-        self.spare = literals;
         Ok(())
     }
 
@@ -181,8 +173,6 @@ impl<N: Copy + Eq + Hash + Drop, S: Copy + Eq + Hash + Drop> ClauseTable<N, S> {
         literals: &[Literal],
         ends: Vec<usize>,
     ) -> Result<(), Exhausted>
-        requires names { IsIdentity N.eq }
-        requires solvables { IsIdentity S.eq }
         ensures added { OnOk result (table_in self.new ≡ record (table_in self.old) {
           literals = (table_in self.old).literals ++ literals.now ∷ [];
           kinds = (table_in self.old).kinds ++ kind ∷ [];
@@ -221,9 +211,7 @@ impl<N: Copy + Eq + Hash + Drop, S: Copy + Eq + Hash + Drop> ClauseTable<N, S> {
         kind: ClauseKind<N, S>,
         literals: &[Literal],
     ) -> Result<(), Exhausted>
-        requires names { IsIdentity N.eq }
-        requires solvables { IsIdentity S.eq }
-        ensures kinds { OnOk result (self.new.kinds ≡ self.old.kinds ++ kind ∷ []) }
+        ensures kinds { OnOk result (self.new.kinds.items ≡ self.old.kinds.items ++ kind ∷ []) }
         ensures literals { OnOk result (self.new.literals ≡ self.old.literals ++ literals.now ∷ []) }
         ensures unchanged { OnErr result (table_in self.new ≡ table_in self.old) }
         ensures variables { self.new.variables ≡ self.old.variables }
@@ -231,26 +219,25 @@ impl<N: Copy + Eq + Hash + Drop, S: Copy + Eq + Hash + Drop> ClauseTable<N, S> {
         ensures clauses { self.new.clause_limit ≡ self.old.clause_limit }
         ensures memory { IfErr result (λ e. e ≡ Exhausted.Memory) }
     {
-        let count = self.kinds.len();
-        self.kinds.push_in_run(kind)?;
+        self.kinds.push(kind)?;
         match self.literals.push(literals) {
             Ok(()) => Ok(()),
             Err(_) => {
-                self.kinds.truncate(count);
+                self.kinds.pop();
                 Err(Exhausted::Memory)
             }
         }
     }
 
     /// Returns the kinds of the clauses, by their numbers.
-    pub(crate) fn kinds(&self) -> &ClauseKinds<N, S>
+    pub(crate) fn kinds(&self) -> &[ClauseKind<N, S>]
         ensures { result.now ≡ (table_in self.now).kinds }
     {
         &self.kinds
     }
 
     /// Returns the literals of the clauses, by their numbers.
-    pub(crate) fn literals(&self) -> &ClauseRuns
+    pub(crate) fn literals(&self) -> &Clauses
         ensures { result.now ≡ (table_in self.now).literals }
     {
         &self.literals

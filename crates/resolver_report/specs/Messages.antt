@@ -202,6 +202,10 @@ module _ {S : Type 0} (g : ConflictShape S) (group_of : ℕ → Option ℕ) (mar
   abbrev pub told_of : List (Edge S) → List RunTold
   told_of edges = map told_of_run (runs_in_order edges)
 
+-- the line of a run
+abbrev pub run_line : {N S : Type 0} → Universe N S → Bool → RunTold → List ℕ
+run_line u top run = run_text top run.unresolved run.viable (requirement_text u run.requirement)
+
 -- given the keys of the nodes, and the marks of those that can be installed
 module _ {N S : Type 0} (u : Universe N S) (g : ConflictShape S) (ks : List Key) (marks : List Bool) where
   -- the nodes of this one's group, or the node alone
@@ -224,14 +228,11 @@ module _ {N S : Type 0} (u : Universe N S) (g : ConflictShape S) (ks : List Key)
   tell_verdict below version requires reported = let told = below reported in
       record { value = said (version ++ codes " would require") told.value; reported = told.reported }
 
-  abbrev pub run_line : Bool → RunTold → List ℕ
-  run_line top run = run_text top run.unresolved run.viable (requirement_text u run.requirement)
-
   -- the line of a run with its candidates below; tell gives the lines of one
   abbrev pub tell_run : (ℕ → List Bool → Told Piece) → Bool → RunTold → List Bool → Told Piece
   tell_run tell top run reported =
-      if run.unresolved then record { value = said (run_line top run) nothing; reported = reported }
-      else (let told = side_by_side (λ n. tell n.0) run.candidates reported in record { value = said (run_line top run) told.value; reported = told.reported })
+      if run.unresolved then record { value = said (run_line u top run) nothing; reported = reported }
+      else (let told = side_by_side (λ n. tell n.0) run.candidates reported in record { value = said (run_line u top run) told.value; reported = told.reported })
 
   -- the tree of runs
   abbrev pub tree_over : (ℕ → List Bool → Told Piece) → Bool → List RunTold → List Bool → Told Forest

@@ -1,6 +1,6 @@
 -- What is still to be told of a tree, and its text.
 use Rattle.std.specs.Prelude.{◌≡◌, ◌∷◌, ◌++◌, ◌+◌, ◌-◌, ◌<◌, ◌==◌, ℕ, zero, suc, Bool, true, false, if◌then◌else◌, List, [], length, map, replicate, reverse}
-use Rattle.std.specs.Prelude.{slice_set}
+use Rattle.std.specs.Prelude.{slice_set, String, string_bytes}
 use Rattle.resolver_clause_store.specs.Universe.{Universe}
 use Rattle.resolver_report.specs.declared.graph.NodeId.{NodeId}
 use Rattle.resolver_report.specs.declared.pending.Frame.{Frame}
@@ -11,8 +11,9 @@ use Rattle.resolver_report.specs.Indents.{levels_in}
 use Rattle.resolver_report.specs.Merging.{group_in}
 use Rattle.resolver_report.specs.Messages.{RunTold, Told, side_by_side, told_of}
 use Rattle.resolver_report.specs.Shapes.{outgoing}
-use Rattle.resolver_report.specs.Outlines.{run_told_view}
+use Rattle.resolver_report.specs.Outlines.{runs_view}
 use Rattle.resolver_report.specs.Tellings.{candidate_in, graph_in, keys_in, marks_in, tree_in}
+use Rattle.std.specs.Global.{Global}
 
 -- a candidate whose tree is being told, and what comes after that tree
 pub record FrameTold : Type 0 where
@@ -21,7 +22,7 @@ pub record FrameTold : Type 0 where
   pub runs : List RunTold
 
 abbrev pub frame_view : Frame → FrameTold
-frame_view f = record { node = f.node.0; candidates = f.candidates.now; runs = map run_told_view f.runs.now }
+frame_view f = record { node = f.node.0; candidates = f.candidates.now; runs = runs_view f.runs.now }
 
 -- What is still to be told: the candidates of the present run, the runs after it, and then what comes after each candidate above, nearest first.
 pub record PendingTold : Type 0 where
@@ -42,7 +43,7 @@ pending_view p = record {
   limit = p.limit;
   frames = frames_view p.frames.items;
   candidates = p.candidates.now;
-  runs = map run_told_view p.runs.now;
+  runs = runs_view p.runs.now;
   reported = p.reported.items;
   branch = p.branch.items;
 }
@@ -158,3 +159,7 @@ module _ {I N S : Type 0} (universe : I → Universe N S) (outline : Outline I N
   pub record IsTellStep (old new : PendingTold) (out out' : List ℕ) : Type 0 where
     pub text : out' ++ pending_text new ≡ out ++ pending_text old
     pub work : pending_work new < pending_work old
+
+  -- the same of what the code holds
+  abbrev pub Tells : Pending → Pending → String Global → String Global → Type 0
+  Tells old new out out' = IsTellStep (pending_view old) (pending_view new) (string_bytes out) (string_bytes out')

@@ -1,9 +1,12 @@
 -- Paths of edges from the root to the nodes of a graph.
-use Rattle.std.specs.Prelude.{◌≡◌, ℕ, ◌<◌, length, Contains, Some, None}
+use Rattle.std.specs.Prelude.{◌≡◌, ℕ, ◌<◌, length, Contains, Some, None, Bool, List}
 use Rattle.resolver_clause_store.specs.declared.Requirement.{Requirement}
 use Rattle.resolver_report.specs.declared.graph.Edge.{Edge}
 use Rattle.resolver_report.specs.declared.graph.ConflictEdge.TheVariants.{Requires as Required}
 use Rattle.resolver_report.specs.Shapes.{ConflictShape, solvable_at}
+use Rattle.resolver_clause_store.specs.Laws.{IsIdentity}
+use Rattle.resolver_clause_store.specs.declared.Rule.{Rule}
+use Rattle.resolver_report.specs.Graphs.{graph_of}
 
 -- the root's place, or that of a solvable to which a path of requirement edges leads from the root, through solvables only
 pub data IsWalkedTo {S : Type 0} (g : ConflictShape S) : ℕ → Type 0 where
@@ -19,3 +22,8 @@ pub data IsReachedPlace {S : Type 0} (g : ConflictShape S) : ℕ → Type 0 wher
 -- every node is reached
 abbrev pub AreNodesReached : {S : Type 0} → ConflictShape S → Type 0
 AreNodesReached g = (k : ℕ) → k < length g.shape.nodes → IsReachedPlace g k
+
+-- in the graph of the rules each node is reached
+abbrev pub HasReachedGraph : {N S : Type 0} → List (Rule N S) → Type 0
+HasReachedGraph {N} {S} rules =
+    (same_name : N → N → Bool) (same : S → S → Bool) → IsIdentity same → AreNodesReached (graph_of same_name same rules)

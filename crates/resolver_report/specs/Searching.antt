@@ -1,5 +1,5 @@
 -- The state of a plain search, and a bound of the steps that it has left.
-use Rattle.std.specs.Prelude.{◌≡◌, ◌<◌, ◌+◌, ◌-◌, ◌*◌, ℕ, zero, suc, Bool, cond, List, [], ◌∷◌, ◌++◌, length, map, reverse, take, All, Contains, ⊤}
+use Rattle.std.specs.Prelude.{◌≡◌, ◌<◌, ◌+◌, ◌-◌, ◌*◌, ℕ, zero, suc, Bool, cond, List, [], ◌∷◌, ◌++◌, length, map, reverse, take, All, Contains, ⊤, Vec}
 use Rattle.std.specs.List.{list_any}
 use Rattle.resolver_clause_store.specs.Lists.{HasNoRepeats}
 use Rattle.resolver_report.specs.declared.plain.Examined.{Examined}
@@ -11,6 +11,7 @@ use Rattle.resolver_clause_store.specs.declared.Rule.{Rule}
 use Rattle.resolver_clause_store.specs.declared.Rule.TheVariants.{Requires, Constrains, Lock, Excluded, OnePerPackage}
 use Rattle.resolver_clause_store.specs.Rules.{AllNeeded, IsRefuted, Obeys}
 use Rattle.resolver_report.specs.Plain.{IsOpen, IsRefutedFrom}
+use Rattle.std.specs.Global.{Global}
 
 -- the result of testing the set against the rules
 abbrev pub Shows : {N S : Type 0} → List (Rule N S) → List S → Examined S → Type 0
@@ -92,6 +93,14 @@ abbrev pub IsStep : {N S : Type 0} → (S → S → Bool) → List (Rule N S) �
 IsStep same rules set untried bound GoesOn = IsSearching rules set untried × (search_work same rules set untried < bound)
 IsStep same rules set untried bound Found = Obeys set rules × AllNeeded rules set × HasNoRepeats set
 IsStep same rules set untried bound Refuted = IsRefuted rules
+
+-- the same of what the code holds
+abbrev pub IsStepFrom : {N S : Type 0} → (S → S → Bool) → List (Rule N S) → Vec S Global → Vec (Untried S) Global → ℕ → Step → Type 0
+IsStepFrom same rules set untried bound step = IsStep same rules set.items (untried_view untried.items) bound step
+
+-- the same bound, with the candidates of one more choice
+abbrev pub work_with : {N S : Type 0} → (S → S → Bool) → List (Rule N S) → Vec S Global → List S → Vec (Untried S) Global → ℕ
+work_with same rules set candidates untried = search_work same rules set.items (candidates ∷ untried_view untried.items)
 
 -- how many steps are left at most after one that gave this result
 abbrev pub steps_left : Step → ℕ → ℕ

@@ -1,6 +1,7 @@
 -- The map that `simplify` returns.
-use Rattle.std.specs.Prelude.{◌≡◌, ℕ, ◌<◌, Bool, List, Some, IsSome, IsNone, MatchOption}
+use Rattle.std.specs.Prelude.{◌≡◌, ℕ, ◌<◌, Bool, List, Some, IsSome, IsNone, MatchOption, ◌+◌, Option}
 use Rattle.std.specs.Global.{Global}
+use denote.Ref.{Bor}
 use Rattle.std.specs.HashMap.{HashMap, get}
 use Rattle.std.specs.declared.rc.Rc.{Rc}
 use Rattle.std.specs.declared.hash.FoldHasher.{FoldHasher}
@@ -21,10 +22,17 @@ pub record IsGroupOf {S : Type 0} (ks : List Key) (g : Shape S) (n : ℕ) (group
   pub several : IsSome (group_in ks n)
   pub ids : group.value.ids.items ≡ solvables_at g (class_in ks n)
 
+-- the group of a node, if its class has at least two members
+abbrev pub IsFoundGroup : {S : Type 0} → List Key → Shape S → ℕ → Option (Group S) → Type 0
+IsFoundGroup ks g n found = MatchOption found (IsNone (group_in ks n)) (IsGroupOf ks g n)
+
+-- the same of a reference to it
+abbrev pub IsFoundAt : {S : Type 0} → List Key → Shape S → ℕ → Option (Bor (Group S)) → Type 0
+IsFoundAt ks g n found = MatchOption found (IsNone (group_in ks n)) (λ group. IsGroupOf ks g n group.now)
+
 -- each solvable whose class has at least two members is mapped to its group, in node order, and nothing else is mapped
 pub record IsSimplified {N S : Type 0} (same : S → S → Bool) (u : Universe N S) (g : Shape S) (m : Groups S) : Type 0 where
-  pub members : (n : ℕ) (s : S) → solvable_at g n ≡ Some s →
-      MatchOption (get same m s) (IsNone (group_in (keys u g) n)) (IsGroupOf (keys u g) g n)
+  pub members : (n : ℕ) (s : S) → solvable_at g n ≡ Some s → IsFoundGroup (keys u g) g n (get same m s)
   pub only : (s : S) → IsSome (get same m s) → (n : ℕ) × (solvable_at g n ≡ Some s)
 
 -- the group of a node below the limit
@@ -43,3 +51,13 @@ pub record IsMadeAt {S : Type 0} (same : S → S → Bool) (g : Shape S) (n : �
   pub solvable : S
   pub at_node : solvable_at g n ≡ Some solvable
   pub mapped : get same m solvable ≡ Some group
+
+-- the group of a node with this class, after those of the nodes below it
+abbrev pub IsNextGroup : {S : Type 0} → (S → S → Bool) → Shape S → List ℕ → Groups S → Option (Group S) → Type 0
+IsNextGroup same g class m group =
+    (ks : List Key) (n : ℕ) → class ≡ class_in ks n → IsSimplifiedBefore same ks g n m → IsFoundGroup ks g n group
+
+-- a node with this class is mapped to its group, after the nodes below it
+abbrev pub MapsNext : {S : Type 0} → (S → S → Bool) → Shape S → List ℕ → ℕ → Groups S → Groups S → Type 0
+MapsNext same g class n old new =
+    (ks : List Key) → class ≡ class_in ks n → IsSimplifiedBefore same ks g n old → IsSimplifiedBefore same ks g (n + 1) new

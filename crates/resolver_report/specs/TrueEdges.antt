@@ -1,5 +1,5 @@
 -- Edges that are true of a provider and a problem.
-use Rattle.std.specs.Prelude.{◌≡◌, List, [], Some, All, Contains, slice_get}
+use Rattle.std.specs.Prelude.{◌≡◌, List, [], Some, All, Contains, slice_get, Bool}
 use Rattle.resolver_clause_store.specs.Universe.{Universe, Demands}
 use Rattle.resolver_clause_store.specs.Candidates.{others, requirement_candidates}
 use Rattle.resolver_clause_store.specs.Valid.{demands_of}
@@ -15,6 +15,9 @@ use Rattle.resolver_report.specs.declared.graph.Edge.{Edge}
 use Rattle.resolver_clause_store.specs.declared.Rule.TheVariants.{Lock, Excluded}
 use Rattle.resolver_report.specs.Shapes.{Shape}
 use Rattle.resolver_clause_store.specs.TrueRules.{IsTrueRule}
+use Rattle.resolver_clause_store.specs.Laws.{IsIdentity}
+use Rattle.resolver_clause_store.specs.declared.Rule.{Rule}
+use Rattle.resolver_report.specs.Graphs.{graph_of}
 
 -- the node is a solvable of which P holds
 abbrev pub IsSolvableWith : {S : Type 0} → (S → Type 0) → ConflictNode S → Type 0
@@ -69,3 +72,8 @@ pub record IsTrueEdge {N S : Type 0} (u : Universe N S) (root : Demands) (g : Sh
 -- each edge of the graph is true
 abbrev pub AreEdgesTrue : {N S : Type 0} → Universe N S → Demands → Shape S → Type 0
 AreEdgesTrue u root g = All (IsTrueEdge u root g) g.edges
+
+-- the graph of the rules has true edges only
+abbrev pub HasTrueGraph : {N S : Type 0} → Universe N S → Demands → List (Rule N S) → Type 0
+HasTrueGraph {N} {S} u root rules =
+    (same_name : N → N → Bool) (same : S → S → Bool) → IsIdentity same_name → IsIdentity same → AreEdgesTrue u root (graph_of same_name same rules).shape

@@ -1,6 +1,6 @@
 -- Implications that wait for marks, and one step of marking.
 use Rattle.std.specs.Prelude.{◌≡◌, ◌≢◌, ◌⊎◌, ℕ, zero, suc, ◌<◌, ◌≤◌, ◌-◌, ◌==◌, Bool, true, false, ◌&&◌, if◌then◌else◌, Contains, List, [], ◌∷◌, ◌++◌, drop}
-use Rattle.std.specs.Prelude.{length, slice_index_or, slice_set}
+use Rattle.std.specs.Prelude.{MatchOption, Option, length, slice_index_or, slice_set}
 use Rattle.resolver_report.specs.declared.implications.Marking.{Marking}
 use Rattle.resolver_report.specs.declared.implications.Waiting.{Waiting}
 use Rattle.resolver_report.specs.declared.graph.NodeId.{NodeId}
@@ -114,3 +114,7 @@ pub record IsReady (is : List Implied) (w : Work) (c : ℕ) : Type 0 where
 
 abbrev pub AreTended : List Implied → Work → Type 0
 AreTended is w = (c : ℕ) → c < length is → IsTended is w c
+
+-- the implication that can move on, while the others stay tended; if there is none, no implication is woken
+abbrev pub IsNextReady : List Implied → Work → Work → Option ℕ → Type 0
+IsNextReady is v w next = MatchOption next ((w.woken ≡ []) × KeepsTended is v w) (λ c. IsReady is w c × KeepsOthersTended is v w c)

@@ -1,9 +1,7 @@
 //! Classes of alike nodes, by their keys.
 
-ghost use Rattle.std.specs.Prelude.{◌≡◌, ◌<◌, ◌++◌, ◌∷◌, [], List, Some, IfOk, IfErr, OnOk, length};
-ghost use Rattle.std.specs.HashMap.{get};
-ghost use Rattle.resolver_report.specs.Listed.{items_at, items_if};
-ghost use Rattle.resolver_report.specs.Classes.{HasClasses, has_key};
+ghost use Rattle.std.specs.Prelude.{◌≡◌, ◌<◌, List, IfOk, IfErr, OnOk, length};
+ghost use Rattle.resolver_report.specs.Classes.{AddsMember, HasClasses};
 ghost use Rattle.resolver_report.specs.Keys.{AreKeysOf, key_view};
 ghost use Rattle.resolver_report.specs.Merging.{Key, class_in};
 
@@ -36,9 +34,7 @@ fn add_member(
     key: &Option<NodeKey>,
     n: usize,
 ) -> Result<(), Exhausted>
-    ensures added { OnOk result ((q : NodeKey) →
-        items_at (get ⟦<NodeKey as PartialEq>⟧.eq classes.new q) ≡ items_at (get ⟦<NodeKey as PartialEq>⟧.eq classes.old q) ++
-        items_if (has_key q (Some key.now)) (n ∷ [])) }
+    ensures added { OnOk result (AddsMember ⟦<NodeKey as PartialEq>⟧.eq classes.old classes.new key.now n) }
     ensures memory { IfErr result (λ e. e ≡ Exhausted.Memory) }
 {
     match key {

@@ -1,12 +1,12 @@
 //! The groups and marks of a graph's nodes, which a message is written from.
 
-ghost use Rattle.std.specs.Prelude.{◌≡◌, ℕ, IfOk, IfErr, IsNone, MatchOption, None, Some};
+ghost use Rattle.std.specs.Prelude.{◌≡◌, ℕ, IfOk, IfErr, MatchOption, None, Some};
 ghost use Rattle.std.specs.HashMap.{get};
 ghost use Rattle.resolver_report.specs.ConflictGraphs.{shape_of};
 ghost use Rattle.resolver_report.specs.Marks.{installable as installable_in};
 ghost use Rattle.resolver_report.specs.Merging.{group_in, keys};
 ghost use Rattle.resolver_report.specs.Places.{HasPlaces};
-ghost use Rattle.resolver_report.specs.Simplified.{IsGroupOf, IsSimplified};
+ghost use Rattle.resolver_report.specs.Simplified.{IsFoundAt, IsSimplified};
 ghost use Rattle.resolver_report.specs.Outlines.{groups_in, group_at};
 
 use crate::graph::{ConflictGraph, ConflictNode};
@@ -38,8 +38,7 @@ pub fn group_at_node<'a, I: Interner>(
     n: usize,
 ) -> Option<&'a Rc<MergedConflictNode<I::SolvableId>>>
     requires { IsSimplified I.SolvableId.eq (I.universe _interner.now) graph.now.graph groups.now }
-    ensures { MatchOption result (IsNone (group_in (keys (I.universe _interner.now) graph.now.graph) n)) (λ group.
-        IsGroupOf (keys (I.universe _interner.now) graph.now.graph) graph.now.graph n group.now) }
+    ensures { IsFoundAt (keys (I.universe _interner.now) graph.now.graph) graph.now.graph n result }
 {
     let Some(solvable) = solvable_at(&graph.graph, n) else {
         return None;

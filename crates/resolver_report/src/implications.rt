@@ -1,10 +1,10 @@
 //! The fewest marks of nodes that obey a list of implications, found with a work list.
 
-ghost use Rattle.std.specs.Prelude.{◌≡◌, ◌<◌, [], All, IfOk, IfErr, OnOk, MatchOption, length, map};
+ghost use Rattle.std.specs.Prelude.{◌≡◌, ◌<◌, All, IfOk, IfErr, OnOk, length, map};
 ghost use Rattle.resolver_report.specs.EdgePlaces.{appended, lists_in};
 ghost use Rattle.resolver_report.specs.Implications.{HasLeastMarks, implied};
-ghost use Rattle.resolver_report.specs.WorkLists.{AreTended, IsReady, IsRight, IsSameWork, KeepsOthersTended, KeepsTended, advanced, after_mark, after_waits};
-ghost use Rattle.resolver_report.specs.WorkLists.{has_mark as has_mark_in, is_ready as is_ready_in, left_at, up_to_unmarked as up_to_unmarked_in, work_view};
+ghost use Rattle.resolver_report.specs.WorkLists.{AreTended, IsRight, IsSameWork, advanced, after_mark, after_waits};
+ghost use Rattle.resolver_report.specs.WorkLists.{IsNextReady, has_mark as has_mark_in, is_ready as is_ready_in, left_at, up_to_unmarked as up_to_unmarked_in, work_view};
 
 use crate::graph::{NodeId, empty_lists, push_at};
 use crate::marks::some_marked;
@@ -153,10 +153,7 @@ fn advance(
 fn next_ready(implications: &[Implication], marking: &mut Marking) -> Option<usize>
     requires { IsRight (map implied implications.now) (work_view marking.old) }
     ensures same { IsSameWork (work_view marking.old) (work_view marking.new) }
-    ensures found { MatchOption result
-        ((marking.new.woken.items ≡ []) × KeepsTended (map implied implications.now) (work_view marking.old) (work_view marking.new)) (λ c.
-        IsReady (map implied implications.now) (work_view marking.new) c ×
-        KeepsOthersTended (map implied implications.now) (work_view marking.old) (work_view marking.new) c) }
+    ensures found { IsNextReady (map implied implications.now) (work_view marking.old) (work_view marking.new) result }
 {
     while let Some(woken) = marking.woken.pop() {
         if is_ready(implications, marking, woken) {

@@ -1,8 +1,8 @@
 //! The indent of a line in a tree.
 
-ghost use Rattle.std.specs.Prelude.{◌≡◌, ◌+◌, ◌-◌, ◌<◌, ◌==◌, ◌++◌, ◌∷◌, [], Bool, List, IfOk, IfErr, OnOk, length, map, string_bytes};
+ghost use Rattle.std.specs.Prelude.{◌≡◌, ◌+◌, ◌-◌, ◌<◌, ◌==◌, ◌++◌, ◌∷◌, [], Bool, List, IfOk, IfErr, OnOk, length};
 ghost use Rattle.resolver_report.specs.Forests.{branch_text, indent, indent_from, stem_text};
-ghost use Rattle.resolver_report.specs.Indents.{is_last_child, levels_in};
+ghost use Rattle.resolver_report.specs.Indents.{Writes, WritesFirst, indent_of, is_last_child, levels_in};
 
 use resolver_clause_store::Exhausted;
 use std::alloc::Global;
@@ -48,7 +48,7 @@ impl ChildOrder {
 
 /// Writes the branch at the deepest level of a line.
 pub fn write_branch(order: ChildOrder, out: &mut String) -> Result<(), Exhausted>
-    ensures ok { OnOk result (string_bytes out.new ≡ string_bytes out.old ++ branch_text (is_last_child order)) }
+    ensures ok { OnOk result (Writes out.old out.new (branch_text (is_last_child order))) }
     ensures memory { IfErr result (λ e. e ≡ Exhausted.Memory) }
 {
     match order {
@@ -65,7 +65,7 @@ pub fn write_branch(order: ChildOrder, out: &mut String) -> Result<(), Exhausted
 
 /// Writes the stem at a level above the deepest.
 fn write_stem(order: ChildOrder, out: &mut String) -> Result<(), Exhausted>
-    ensures ok { OnOk result (string_bytes out.new ≡ string_bytes out.old ++ stem_text (is_last_child order)) }
+    ensures ok { OnOk result (Writes out.old out.new (stem_text (is_last_child order))) }
     ensures memory { IfErr result (λ e. e ≡ Exhausted.Memory) }
 {
     match order {
@@ -82,8 +82,7 @@ fn write_stem(order: ChildOrder, out: &mut String) -> Result<(), Exhausted>
 
 /// Writes one level of an indent: a branch if no level is below it, else a stem.
 fn write_level(order: ChildOrder, below: &[ChildOrder], out: &mut String) -> Result<(), Exhausted>
-    ensures ok { OnOk result (string_bytes out.new ++ indent (map is_last_child below.now) ≡ string_bytes out.old ++
-        indent (is_last_child order ∷ map is_last_child below.now)) }
+    ensures ok { OnOk result (WritesFirst indent_of out.old out.new order below.now) }
     ensures memory { IfErr result (λ e. e ≡ Exhausted.Memory) }
 {
     if below.is_empty() {
@@ -96,7 +95,7 @@ fn write_level(order: ChildOrder, below: &[ChildOrder], out: &mut String) -> Res
 
 /// Writes the indent of a line at these levels.
 fn write_levels(levels: &[ChildOrder], out: &mut String) -> Result<(), Exhausted>
-    ensures ok { OnOk result (string_bytes out.new ≡ string_bytes out.old ++ indent (map is_last_child levels.now)) }
+    ensures ok { OnOk result (Writes out.old out.new (indent_of levels.now)) }
     ensures memory { IfErr result (λ e. e ≡ Exhausted.Memory) }
 {
     let mut rest = levels;
@@ -143,7 +142,7 @@ impl Indenter {
 
     /// Writes the indent of a line at these levels.
     pub fn write(&self, out: &mut String) -> Result<(), Exhausted>
-        ensures ok { OnOk result (string_bytes out.new ≡ string_bytes out.old ++ indent_from self.now.top_level_indent (levels_in self.now)) }
+        ensures ok { OnOk result (Writes out.old out.new (indent_from self.now.top_level_indent (levels_in self.now))) }
         ensures memory { IfErr result (λ e. e ≡ Exhausted.Memory) }
     {
         if self.top_level_indent {

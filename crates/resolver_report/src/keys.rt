@@ -1,10 +1,10 @@
 //! Keys of nodes: nodes with equal keys are alike.
 
-ghost use Rattle.std.specs.Prelude.{◌≡◌, ◌<◌, IfOk, IfErr, length, string_bytes, Some};
+ghost use Rattle.std.specs.Prelude.{◌≡◌, ◌<◌, IfOk, IfErr, length, string_bytes};
 ghost use Rattle.std.specs.Option.{option_map};
-ghost use Rattle.resolver_report.specs.Shapes.{as_solvable, required as required_by};
+ghost use Rattle.resolver_report.specs.Shapes.{required as required_by};
 ghost use Rattle.resolver_report.specs.Merging.{key_of, keys, sides_in as sides_in_by, sides_out as sides_out_by};
-ghost use Rattle.resolver_report.specs.Keys.{AreKeysOf, IsInOrder, IsKeyOf};
+ghost use Rattle.resolver_report.specs.Keys.{AreKeysOf, IsInOrder, IsKeyOf, node_name};
 
 use crate::graph::{ConflictEdge, ConflictNode, Graph, NodeId, Side};
 use itertools::Itertools;
@@ -61,8 +61,7 @@ fn name_at<I: Interner>(
     interner: &I,
     node: &ConflictNode<I::SolvableId>,
 ) -> Result<Option<String>, Exhausted>
-    ensures value { IfOk result (λ o.
-        option_map string_bytes o ≡ option_map (λ s. (I.universe interner.now).name_text ((I.universe interner.now).name s)) (as_solvable (Some node.now))) }
+    ensures value { IfOk result (λ o. option_map string_bytes o ≡ node_name (I.universe interner.now) node.now) }
     ensures memory { IfErr result (λ e. e ≡ Exhausted.Memory) }
 {
     match node {

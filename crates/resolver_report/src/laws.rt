@@ -1,15 +1,13 @@
 //! Laws of rules: what true rules mean for answers and for their graph, and which rules of a refuted list can go.
 
-ghost use Rattle.std.specs.Prelude.{All, Bool, List, []};
-ghost use Rattle.resolver_clause_store.specs.Laws.{IsIdentity};
+ghost use Rattle.std.specs.Prelude.{All, List, []};
 ghost use Rattle.resolver_clause_store.specs.Universe.{Demands, Universe};
 ghost use Rattle.resolver_clause_store.specs.Valid.{IsValid};
-ghost use Rattle.resolver_report.specs.Graphs.{graph_of};
-ghost use Rattle.resolver_report.specs.ReachedPlaces.{AreNodesReached};
+ghost use Rattle.resolver_report.specs.ReachedPlaces.{HasReachedGraph};
 ghost use Rattle.resolver_report.specs.ReachedRules.{IsKept, LeavesKept};
 ghost use Rattle.resolver_clause_store.specs.Rules.{IsRefuted, Obeys};
 ghost use Rattle.resolver_clause_store.specs.TrueRules.{IsTrueRule};
-ghost use Rattle.resolver_report.specs.TrueEdges.{AreEdgesTrue};
+ghost use Rattle.resolver_report.specs.TrueEdges.{HasTrueGraph};
 ghost use Rattle.resolver_clause_store.specs.declared.Rule.{Rule};
 
 /// A valid set without exemptions obeys every list of true rules.
@@ -17,8 +15,7 @@ ghost use Rattle.resolver_clause_store.specs.declared.Rule.{Rule};
 /// So where true rules are refuted, the problem has no valid set without exemptions. The call does nothing: its
 /// contract is the law.
 pub fn valid_sets_obey_true_rules<N, S>()
-    ensures { (u : Universe N S) (root : Demands) (rules : List (Rule N S)) (set : List S) →
-        All (IsTrueRule u root) rules → IsValid u root set [] → Obeys set rules }
+    ensures { (u : Universe N S) (root : Demands) (rules : List (Rule N S)) (s : List S) → All (IsTrueRule u root) rules → IsValid u root s [] → Obeys s rules }
 {}
 
 /// A refuted list of rules stays refuted when only the rules about what is reached are kept.
@@ -39,8 +36,7 @@ pub fn kept_rules_stay_refuted<N, S>()
 /// and an exclusion's from a solvable to the reason for its exclusion. An edge between instances joins solvables of one
 /// name. The call does nothing: its contract is the law.
 pub fn graphs_of_true_rules_are_true<N, S>()
-    ensures { (u : Universe N S) (root : Demands) (same_name : N → N → Bool) (same : S → S → Bool) (rules : List (Rule N S)) →
-        IsIdentity same_name → IsIdentity same → All (IsTrueRule u root) rules → AreEdgesTrue u root (graph_of same_name same rules).shape }
+    ensures { (u : Universe N S) (root : Demands) (rules : List (Rule N S)) → All (IsTrueRule u root) rules → HasTrueGraph u root rules }
 {}
 
 /// In the graph of kept rules, which are all about what is reached, each node is reached from the root.
@@ -49,6 +45,5 @@ pub fn graphs_of_true_rules_are_true<N, S>()
 /// unresolved node or a reason, an edge leads from the root or from such a solvable. The call does nothing: its
 /// contract is the law.
 pub fn graphs_of_kept_rules_are_reached<N, S>()
-    ensures { (same_name : N → N → Bool) (same : S → S → Bool) (rules : List (Rule N S)) →
-        IsIdentity same → All (IsKept rules) rules → AreNodesReached (graph_of same_name same rules) }
+    ensures { (rules : List (Rule N S)) → All (IsKept rules) rules → HasReachedGraph rules }
 {}

@@ -1,12 +1,12 @@
 //! The message of a conflict graph.
 
-ghost use Rattle.std.specs.Prelude.{◌≡◌, ◌++◌, ◌∷◌, [], true, Some, IfOk, IfErr, OnOk, codes, filter, string_bytes};
+ghost use Rattle.std.specs.Prelude.{◌≡◌, Some, IfOk, IfErr, OnOk, filter, string_bytes};
 ghost use Rattle.resolver_report.specs.ConflictGraphs.{shape_of};
-ghost use Rattle.resolver_report.specs.MessageParts.{message_in};
-ghost use Rattle.resolver_report.specs.Messages.{conflict_part, conflict_text, message, missing_part, tree};
-ghost use Rattle.resolver_report.specs.Forests.{text_of};
+ghost use Rattle.resolver_report.specs.MessageParts.{message_in, missing_in, incompatible_in, conflict_in};
+ghost use Rattle.resolver_report.specs.Messages.{message};
 ghost use Rattle.resolver_report.specs.Picks.{has_mark};
-ghost use Rattle.resolver_report.specs.Tellings.{IsOutline, graph_in, keys_in, marks_in};
+ghost use Rattle.resolver_report.specs.Tellings.{IsOutline};
+ghost use Rattle.resolver_report.specs.Indents.{Writes};
 
 use crate::findings::findings_of;
 use crate::graph::{ConflictGraph, Edge};
@@ -69,9 +69,7 @@ fn write_missing_part<I: Interner>(
     out: &mut String,
 ) -> Result<(), Exhausted>
     requires { IsOutline I.universe outline.now I.SolvableId.eq }
-    ensures ok { OnOk result (string_bytes out.new ≡ string_bytes out.old ++
-        missing_part (I.universe outline.now.interner.now) (graph_in I.universe outline.now) (keys_in I.universe outline.now)
-        (marks_in I.universe outline.now) edges.now) }
+    ensures ok { OnOk result (Writes out.old out.new (missing_in I.universe outline.now edges.now)) }
     ensures memory { IfErr result (λ e. e ≡ Exhausted.Memory) }
 {
     let [_, ..] = edges else {
@@ -89,10 +87,7 @@ fn write_incompatible<I: Interner>(
     out: &mut String,
 ) -> Result<(), Exhausted>
     requires { IsOutline I.universe outline.now I.SolvableId.eq }
-    ensures ok { OnOk result (string_bytes out.new ≡ string_bytes out.old ++
-        (codes "The following packages are incompatible" ++ 10 ∷ [] ++
-        text_of true [] (tree (I.universe outline.now.interner.now) (graph_in I.universe outline.now) (keys_in I.universe outline.now)
-        (marks_in I.universe outline.now) edges.now) ++ conflict_text (I.universe outline.now.interner.now) root_edges.now)) }
+    ensures ok { OnOk result (Writes out.old out.new (incompatible_in I.universe outline.now root_edges.now edges.now)) }
     ensures memory { IfErr result (λ e. e ≡ Exhausted.Memory) }
 {
     write_end("The following packages are incompatible", out)?;
@@ -109,9 +104,7 @@ fn write_conflict_part<I: Interner>(
     out: &mut String,
 ) -> Result<(), Exhausted>
     requires { IsOutline I.universe outline.now I.SolvableId.eq }
-    ensures ok { OnOk result (string_bytes out.new ≡ string_bytes out.old ++
-        conflict_part (I.universe outline.now.interner.now) (graph_in I.universe outline.now) (keys_in I.universe outline.now)
-        (marks_in I.universe outline.now) root_edges.now edges.now) }
+    ensures ok { OnOk result (Writes out.old out.new (conflict_in I.universe outline.now root_edges.now edges.now)) }
     ensures memory { IfErr result (λ e. e ≡ Exhausted.Memory) }
 {
     let [_, ..] = edges else {
@@ -176,7 +169,7 @@ fn write_message<I: Interner>(
     out: &mut String,
 ) -> Result<(), Exhausted>
     requires { IsOutline I.universe parts.now.outline I.SolvableId.eq }
-    ensures ok { OnOk result (string_bytes out.new ≡ string_bytes out.old ++ message_in I.universe parts.now) }
+    ensures ok { OnOk result (Writes out.old out.new (message_in I.universe parts.now)) }
     ensures memory { IfErr result (λ e. e ≡ Exhausted.Memory) }
 {
     write_missing_part(&parts.outline, &parts.lost, out)?;

@@ -1,15 +1,12 @@
 //! What a message tells of each node.
 
-ghost use Rattle.std.specs.Prelude.{◌≡◌, ◌<◌, ◌++◌, ◌∷◌, [], if◌then◌else◌, IfOk, IfErr, OnOk, Option, filter, length, map, reverse};
-ghost use Rattle.std.specs.List.{list_any};
+ghost use Rattle.std.specs.Prelude.{◌≡◌, ◌<◌, ◌++◌, ◌∷◌, [], IfOk, IfErr, OnOk, filter, length, map, reverse};
 ghost use Rattle.std.specs.Option.{option_map};
 ghost use Rattle.resolver_clause_store.specs.Lists.{without_repeats};
 ghost use Rattle.resolver_report.specs.ConflictGraphs.{shape_of};
 ghost use Rattle.resolver_report.specs.EdgeRuns.{run_view};
-ghost use Rattle.resolver_report.specs.Messages.{is_candidate as is_candidate_in, is_unresolved as is_unresolved_in, is_viable as is_viable_in};
-ghost use Rattle.resolver_report.specs.Messages.{same_group_as, told_of, told_of_run};
-ghost use Rattle.resolver_report.specs.Shapes.{places};
-ghost use Rattle.resolver_report.specs.Outlines.{HasGroupsOf, group_at as group_at_in, groups_in, has_viability, node_told, node_view, run_told_view};
+ghost use Rattle.resolver_report.specs.Messages.{is_unresolved as is_unresolved_in, is_viable as is_viable_in};
+ghost use Rattle.resolver_report.specs.Outlines.{HasGroupsOf, are_together, edges_told, group_at as group_at_in, groups_in, is_candidate_of, node_told, node_view, nodes_told, run_told, run_told_view, runs_told, runs_view, with_node};
 
 use crate::graph::{ConflictGraph, ConflictNode, Edge, NodeId};
 use crate::marks::{is_marked, is_place, some_marked};
@@ -68,9 +65,7 @@ fn add_node(
     n: NodeId,
 ) -> Result<(), Exhausted>
     requires { HasGroupsOf groups.now found.old.items told.old }
-    ensures found { OnOk result (found.new.items ≡
-        (if list_any (λ m. same_group_as (group_at_in groups.now n.0) (group_at_in groups.now m.0)) found.old.items then found.old.items else found.old.items ++
-        n ∷ [])) }
+    ensures found { OnOk result (found.new.items ≡ with_node groups.now n found.old.items) }
     ensures told { OnOk result (HasGroupsOf groups.now found.new.items told.new) }
     ensures memory { IfErr result (λ e. e ≡ Exhausted.Memory) }
 {
@@ -92,7 +87,7 @@ fn first_of_groups(
     groups: &[Option<usize>],
     nodes: &[NodeId],
 ) -> Result<Vec<NodeId>, Exhausted>
-    ensures value { IfOk result (λ v. v.items ≡ without_repeats (λ m n. same_group_as (group_at_in groups.now m.0) (group_at_in groups.now n.0)) nodes.now) }
+    ensures value { IfOk result (λ v. v.items ≡ without_repeats (are_together groups.now) nodes.now) }
     ensures memory { IfErr result (λ e. e ≡ Exhausted.Memory) }
 {
     let mut found = Vec::new(alloc);
@@ -105,7 +100,7 @@ fn first_of_groups(
 
 /// Whether a run tells of a node: a solvable that can be installed, or any solvable if the run is not viable.
 fn is_candidate<S>(findings: &Findings<'_, S>, is_viable: bool, n: NodeId) -> bool
-    ensures { result ≡ is_candidate_in (shape_of findings.now.graph.now) (groups_in findings.now) findings.now.installable.items is_viable n.0 }
+    ensures { result ≡ is_candidate_of findings.now is_viable n.0 }
 {
     match findings.graph.graph.nodes().get(n.0) {
         Some(ConflictNode::Solvable(_)) => !is_viable || is_marked(&findings.installable, n),
@@ -120,9 +115,7 @@ fn candidate_targets<S>(
     is_viable: bool,
     targets: &[NodeId],
 ) -> Result<Vec<NodeId>, Exhausted>
-    ensures value { IfOk result (λ v.
-        v.items ≡ filter (λ n. is_candidate_in (shape_of findings.now.graph.now)
-        (groups_in findings.now) findings.now.installable.items is_viable n.0) targets.now) }
+    ensures value { IfOk result (λ v. v.items ≡ filter (λ n. is_candidate_of findings.now is_viable n.0) targets.now) }
     ensures memory { IfErr result (λ e. e ≡ Exhausted.Memory) }
 {
     let found = targets
@@ -155,8 +148,7 @@ fn run_outline<S>(
     findings: &Findings<'_, S>,
     run: &EdgeRun,
 ) -> Result<RunOutline, Exhausted>
-    ensures value { IfOk result (λ s.
-        run_told_view s ≡ told_of_run (shape_of findings.now.graph.now) (groups_in findings.now) findings.now.installable.items (run_view run.now)) }
+    ensures value { IfOk result (λ s. run_told_view s ≡ run_told findings.now (run_view run.now)) }
     ensures memory { IfErr result (λ e. e ≡ Exhausted.Memory) }
 {
     let is_viable = is_viable(findings, run);
@@ -179,9 +171,7 @@ fn add_outline<S>(
     wanted: bool,
     outlines: &mut Vec<RunOutline>,
 ) -> Result<(), Exhausted>
-    ensures ok { OnOk result (map run_told_view outlines.new.items ≡ map run_told_view outlines.old.items ++
-        map (told_of_run (shape_of findings.now.graph.now) (groups_in findings.now) findings.now.installable.items)
-        (filter (has_viability findings.now wanted) (run_view run.now ∷ []))) }
+    ensures ok { OnOk result (runs_view outlines.new.items ≡ runs_view outlines.old.items ++ runs_told findings.now wanted (run_view run.now ∷ [])) }
     ensures memory { IfErr result (λ e. e ≡ Exhausted.Memory) }
 {
     if is_viable(findings, run) != wanted {
@@ -199,9 +189,7 @@ fn add_stories<S>(
     wanted: bool,
     outlines: &mut Vec<RunOutline>,
 ) -> Result<(), Exhausted>
-    ensures ok { OnOk result (map run_told_view outlines.new.items ≡ map run_told_view outlines.old.items ++
-        map (told_of_run (shape_of findings.now.graph.now) (groups_in findings.now) findings.now.installable.items)
-        (filter (has_viability findings.now wanted) (reverse (map run_view runs.now)))) }
+    ensures ok { OnOk result (runs_view outlines.new.items ≡ runs_view outlines.old.items ++ runs_told findings.now wanted (reverse (map run_view runs.now))) }
     ensures memory { IfErr result (λ e. e ≡ Exhausted.Memory) }
 {
     let mut rest = runs;
@@ -218,8 +206,7 @@ pub fn outlines_of<S: Copy + Drop>(
     findings: &Findings<'_, S>,
     edges: &[Edge<S>],
 ) -> Result<Vec<RunOutline>, Exhausted>
-    ensures value { IfOk result (λ v.
-        map run_told_view v.items ≡ told_of (shape_of findings.now.graph.now) (groups_in findings.now) findings.now.installable.items edges.now) }
+    ensures value { IfOk result (λ v. runs_view v.items ≡ edges_told findings.now edges.now) }
     ensures memory { IfErr result (λ e. e ≡ Exhausted.Memory) }
 {
     let runs = runs_of(alloc, edges)?;
@@ -254,9 +241,7 @@ pub fn node_stories<S: Copy + Drop>(
     alloc: Global,
     findings: &Findings<'_, S>,
 ) -> Result<Vec<NodeOutline>, Exhausted>
-    ensures value { IfOk result (λ v.
-        map node_view v.items ≡ map (node_told (shape_of findings.now.graph.now) (groups_in findings.now) findings.now.installable.items)
-        (places findings.now.graph.now.graph)) }
+    ensures value { IfOk result (λ v. map node_view v.items ≡ nodes_told findings.now) }
     ensures memory { IfErr result (λ e. e ≡ Exhausted.Memory) }
 {
     let mut outlines = Vec::new(alloc);

@@ -2,9 +2,9 @@
 //!
 //! A tree is as deep as a chain of packages is long, so the position in it is kept in a list and not on the call stack.
 
-ghost use Rattle.std.specs.Prelude.{◌≡◌, IfErr, IfOk, OnOk, map, not, slice_set};
+ghost use Rattle.std.specs.Prelude.{◌≡◌, IfErr, IfOk, OnOk, not, slice_set};
 ghost use Rattle.resolver_report.specs.PendingTexts.{HasLevels, entered, is_none, left, pending_view, whole_tree};
-ghost use Rattle.resolver_report.specs.Outlines.{run_told_view};
+ghost use Rattle.resolver_report.specs.Outlines.{runs_view};
 
 use crate::graph::NodeId;
 use crate::indenter::Indenter;
@@ -58,7 +58,7 @@ impl<'s> Pending<'s> {
         top_level_indent: bool,
         limit: usize,
     ) -> Result<Self, Exhausted>
-        ensures view { IfOk result (λ pending. pending_view pending ≡ whole_tree top_level_indent limit (map run_told_view runs.now)) }
+        ensures view { IfOk result (λ pending. pending_view pending ≡ whole_tree top_level_indent limit (runs_view runs.now)) }
         ensures levels { IfOk result HasLevels }
         ensures memory { IfErr result (λ e. e ≡ Exhausted.Memory) }
     {
@@ -81,8 +81,7 @@ impl<'s> Pending<'s> {
         runs: &'s [RunOutline],
         indenter: Indenter,
     ) -> Result<(), Exhausted>
-        ensures view { OnOk result (pending_view self.new ≡ entered (pending_view self.old) node.0 candidates.now
-            (map run_told_view runs.now) indenter.top_level_indent) }
+        ensures view { OnOk result (pending_view self.new ≡ entered (pending_view self.old) node.0 candidates.now (runs_view runs.now) indenter.top_level_indent) }
         ensures indenter { OnOk result (self.new.indenter ≡ indenter) }
         ensures memory { IfErr result (λ e. e ≡ Exhausted.Memory) }
     {

@@ -7,7 +7,7 @@ ghost use Rattle.resolver_clause_store.specs.Statements.{AllMeet, IsPresent, lis
 ghost use Rattle.resolver_clause_store.specs.Rules.{AllNeeded, IsRefuted, Obeys};
 ghost use Rattle.resolver_report.specs.Plain.{BreaksSome, Clashes, HasTwo, IsAllowed, IsOnlyInstance, IsForbidden, IsMet, IsOpen, IsUnmet, HasNoOtherInstance};
 ghost use Rattle.resolver_report.specs.Plain.{HasOtherInstance};
-ghost use Rattle.resolver_report.specs.Searching.{IsChosen, IsSearching, IsStep, Shows, search_work, untried_view, work_of_choice};
+ghost use Rattle.resolver_report.specs.Searching.{IsChosen, IsSearching, IsStepFrom, Shows, search_work, untried_view, work_of_choice, work_with};
 
 use resolver_clause_store::{By, Exhausted, Rule, has, meets};
 use std::alloc::Global;
@@ -235,8 +235,7 @@ fn enter<'r, N: Eq, S: Copy + Eq + Drop>(
     requires names { IsIdentity N.eq }
     requires solvables { IsIdentity S.eq }
     requires chosen { IsChosen rules.now set.old.items (untried_view untried.old.items) }
-    ensures step { IfOk result (IsStep S.eq rules.now set.new.items (untried_view untried.new.items)
-        (work_of_choice S.eq rules.now set.old.items (untried_view untried.old.items))) }
+    ensures step { IfOk result (IsStepFrom S.eq rules.now set.new untried.new (work_of_choice S.eq rules.now set.old.items (untried_view untried.old.items))) }
     ensures memory { IfErr result (λ e. e ≡ Exhausted.Memory) }
 {
     match examine(rules, set) {
@@ -265,8 +264,7 @@ fn choose<'r, N: Eq, S: Copy + Eq + Drop>(
     requires solvables { IsIdentity S.eq }
     requires candidates { candidates.now ≡ solvable ∷ rest.now }
     requires searching { IsSearching rules.now set.old.items (candidates.now ∷ untried_view untried.old.items) }
-    ensures step { IfOk result (IsStep S.eq rules.now set.new.items (untried_view untried.new.items)
-        (search_work S.eq rules.now set.old.items (candidates.now ∷ untried_view untried.old.items))) }
+    ensures step { IfOk result (IsStepFrom S.eq rules.now set.new untried.new (work_with S.eq rules.now set.old candidates.now untried.old)) }
     ensures memory { IfErr result (λ e. e ≡ Exhausted.Memory) }
 {
     untried.push(Untried { candidates: rest })?;
@@ -284,8 +282,7 @@ fn advance<'r, N: Eq, S: Copy + Eq + Drop>(
     requires names { IsIdentity N.eq }
     requires solvables { IsIdentity S.eq }
     requires searching { IsSearching rules.now set.old.items (untried_view untried.old.items) }
-    ensures step { IfOk result (IsStep S.eq rules.now set.new.items (untried_view untried.new.items)
-        (search_work S.eq rules.now set.old.items (untried_view untried.old.items))) }
+    ensures step { IfOk result (IsStepFrom S.eq rules.now set.new untried.new (search_work S.eq rules.now set.old.items (untried_view untried.old.items))) }
     ensures memory { IfErr result (λ e. e ≡ Exhausted.Memory) }
 {
     let Some(level) = untried.pop() else {

@@ -1,10 +1,10 @@
 //! Groups of alike solvables, which a message tells of together.
 
-ghost use Rattle.std.specs.Prelude.{◌≡◌, ℕ, ◌+◌, List, IfOk, IfErr, OnOk, IfSome, IsNone, MatchOption};
+ghost use Rattle.std.specs.Prelude.{◌≡◌, IfOk, IfErr, OnOk, IfSome};
 ghost use Rattle.resolver_clause_store.specs.Laws.{IsIdentity};
-ghost use Rattle.resolver_report.specs.Merging.{Key, class_in, group_in, solvables_at as solvables_at_places};
+ghost use Rattle.resolver_report.specs.Merging.{solvables_at as solvables_at_places};
 ghost use Rattle.resolver_report.specs.Shapes.{solvable_at as solvable_at_place};
-ghost use Rattle.resolver_report.specs.Simplified.{IsGroupOf, IsMadeAt, IsSimplified, IsSimplifiedBefore};
+ghost use Rattle.resolver_report.specs.Simplified.{IsMadeAt, IsNextGroup, IsSimplified, MapsNext};
 
 use crate::classes::{class_at, classes_of};
 use crate::graph::{ConflictGraph, ConflictNode, Graph};
@@ -66,9 +66,7 @@ fn group_of<S: Copy + Eq + Hash + Drop>(
     class: &[usize],
     groups: &HashMap<S, Rc<MergedConflictNode<S>>>,
 ) -> Result<Option<Rc<MergedConflictNode<S>>>, Exhausted>
-    ensures value { IfOk result (λ group.
-        (ks : List Key) (n : ℕ) → class.now ≡ class_in ks n → IsSimplifiedBefore S.eq ks graph.now n groups.now →
-        MatchOption group (IsNone (group_in ks n)) (IsGroupOf ks graph.now n)) }
+    ensures value { IfOk result (IsNextGroup S.eq graph.now class.now groups.now) }
     ensures memory { IfErr result (λ e. e ≡ Exhausted.Memory) }
 {
     let [first, _, ..] = class else {
@@ -90,8 +88,7 @@ fn add_group<S: Copy + Eq + Hash + Drop>(
     groups: &mut HashMap<S, Rc<MergedConflictNode<S>>>,
 ) -> Result<(), Exhausted>
     requires identity { IsIdentity S.eq }
-    ensures after { OnOk result ((ks : List Key) → class.now ≡ class_in ks n → IsSimplifiedBefore S.eq ks graph.now n groups.old →
-        IsSimplifiedBefore S.eq ks graph.now (n + 1) groups.new) }
+    ensures after { OnOk result (MapsNext S.eq graph.now class.now n groups.old groups.new) }
     ensures memory { IfErr result (λ e. e ≡ Exhausted.Memory) }
 {
     let _nodes = graph.nodes();

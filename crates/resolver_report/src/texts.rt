@@ -1,8 +1,8 @@
 //! The texts of version sets, requirements and versions, and the lines of the root's own conflicts.
 
-ghost use Rattle.std.specs.Prelude.{◌≡◌, ◌++◌, ◌∷◌, [], IfErr, OnOk, Some, map, string_bytes};
+ghost use Rattle.std.specs.Prelude.{◌≡◌, ◌∷◌, [], IfErr, OnOk, Some, map};
 ghost use Rattle.resolver_report.specs.ConflictTexts.{conflict_line_text};
-ghost use Rattle.resolver_report.specs.Indents.{is_last_child};
+ghost use Rattle.resolver_report.specs.Indents.{is_last_child, Writes};
 ghost use Rattle.resolver_report.specs.Messages.{conflict_text, constraint_text, joined_texts, lock_text, reason_text, requirement_text as requirement_text_in};
 ghost use Rattle.resolver_report.specs.Messages.{run_after as after_run, run_before as before_run, run_text as run_text_of};
 ghost use Rattle.resolver_report.specs.Messages.{version_set_text as version_set_text_in};
@@ -17,7 +17,7 @@ pub fn write_version_set<I: Interner>(
     version_set: VersionSetId,
     out: &mut String,
 ) -> Result<(), Exhausted>
-    ensures ok { OnOk result (string_bytes out.new ≡ string_bytes out.old ++ version_set_text_in (I.universe interner.now) version_set) }
+    ensures ok { OnOk result (Writes out.old out.new (version_set_text_in (I.universe interner.now) version_set)) }
     ensures memory { IfErr result (λ e. e ≡ Exhausted.Memory) }
 {
     interner.display_name(interner.version_set_name(version_set), out)?;
@@ -32,8 +32,7 @@ fn write_joined<I: Interner>(
     version_sets: &[VersionSetId],
     out: &mut String,
 ) -> Result<(), Exhausted>
-    ensures ok { OnOk result (string_bytes out.new ≡ string_bytes out.old ++
-        joined_texts (map (version_set_text_in (I.universe interner.now)) version_sets.now)) }
+    ensures ok { OnOk result (Writes out.old out.new (joined_texts (map (version_set_text_in (I.universe interner.now)) version_sets.now))) }
     ensures memory { IfErr result (λ e. e ≡ Exhausted.Memory) }
 {
     let mut rest = version_sets;
@@ -53,7 +52,7 @@ fn write_requirement<I: Interner>(
     requirement: Requirement,
     out: &mut String,
 ) -> Result<(), Exhausted>
-    ensures ok { OnOk result (string_bytes out.new ≡ string_bytes out.old ++ requirement_text_in (I.universe interner.now) requirement) }
+    ensures ok { OnOk result (Writes out.old out.new (requirement_text_in (I.universe interner.now) requirement)) }
     ensures memory { IfErr result (λ e. e ≡ Exhausted.Memory) }
 {
     match requirement {
@@ -102,8 +101,7 @@ pub fn write_run_text<I: Interner>(
     requirement: Requirement,
     out: &mut String,
 ) -> Result<(), Exhausted>
-    ensures ok { OnOk result (string_bytes out.new ≡ string_bytes out.old ++
-        run_text_of top unresolved viable (requirement_text_in (I.universe interner.now) requirement)) }
+    ensures ok { OnOk result (Writes out.old out.new (run_text_of top unresolved viable (requirement_text_in (I.universe interner.now) requirement))) }
     ensures memory { IfErr result (λ e. e ≡ Exhausted.Memory) }
 {
     out.push_str(run_before(top, unresolved))?;
@@ -118,7 +116,7 @@ pub fn write_reason<I: Interner>(
     node: &ConflictNode<I::SolvableId>,
     out: &mut String,
 ) -> Result<(), Exhausted>
-    ensures ok { OnOk result (string_bytes out.new ≡ string_bytes out.old ++ reason_text (I.universe interner.now) (Some node.now)) }
+    ensures ok { OnOk result (Writes out.old out.new (reason_text (I.universe interner.now) (Some node.now))) }
     ensures memory { IfErr result (λ e. e ≡ Exhausted.Memory) }
 {
     match node {
@@ -138,7 +136,7 @@ fn write_constraint<I: Interner>(
     version_set: VersionSetId,
     out: &mut String,
 ) -> Result<(), Exhausted>
-    ensures ok { OnOk result (string_bytes out.new ≡ string_bytes out.old ++ constraint_text (I.universe interner.now) version_set) }
+    ensures ok { OnOk result (Writes out.old out.new (constraint_text (I.universe interner.now) version_set)) }
     ensures memory { IfErr result (λ e. e ≡ Exhausted.Memory) }
 {
     out.push_str("the constraint ")?;
@@ -153,7 +151,7 @@ pub fn write_version<I: Interner>(
     solvable: I::SolvableId,
     out: &mut String,
 ) -> Result<(), Exhausted>
-    ensures ok { OnOk result (string_bytes out.new ≡ string_bytes out.old ++ (I.universe interner.now).merged_text (solvable ∷ [])) }
+    ensures ok { OnOk result (Writes out.old out.new ((I.universe interner.now).merged_text (solvable ∷ []))) }
     ensures memory { IfErr result (λ e. e ≡ Exhausted.Memory) }
 {
     let mut alone = Vec::new(*out.allocator());
@@ -168,7 +166,7 @@ fn write_lock<I: Interner>(
     locked: &I::SolvableId,
     out: &mut String,
 ) -> Result<(), Exhausted>
-    ensures ok { OnOk result (string_bytes out.new ≡ string_bytes out.old ++ lock_text (I.universe interner.now) locked.now) }
+    ensures ok { OnOk result (Writes out.old out.new (lock_text (I.universe interner.now) locked.now)) }
     ensures memory { IfErr result (λ e. e ≡ Exhausted.Memory) }
 {
     write_version(interner, *locked, out)?;
@@ -183,7 +181,7 @@ fn write_conflict_line<I: Interner>(
     order: ChildOrder,
     out: &mut String,
 ) -> Result<(), Exhausted>
-    ensures ok { OnOk result (string_bytes out.new ≡ string_bytes out.old ++ conflict_line_text (I.universe interner.now) weight.now (is_last_child order)) }
+    ensures ok { OnOk result (Writes out.old out.new (conflict_line_text (I.universe interner.now) weight.now (is_last_child order))) }
     ensures memory { IfErr result (λ e. e ≡ Exhausted.Memory) }
 {
     match weight {
@@ -209,7 +207,7 @@ pub fn write_conflicts<I: Interner>(
     edges: &[Edge<I::SolvableId>],
     out: &mut String,
 ) -> Result<(), Exhausted>
-    ensures ok { OnOk result (string_bytes out.new ≡ string_bytes out.old ++ conflict_text (I.universe interner.now) edges.now) }
+    ensures ok { OnOk result (Writes out.old out.new (conflict_text (I.universe interner.now) edges.now)) }
     ensures memory { IfErr result (λ e. e ≡ Exhausted.Memory) }
 {
     let mut rest = edges;

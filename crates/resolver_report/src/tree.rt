@@ -1,15 +1,14 @@
 //! The tree of a message.
 
-ghost use Rattle.std.specs.Prelude.{◌≡◌, ◌∷◌, ◌++◌, ◌<◌, ◌==◌, [], false, true, length, map};
-ghost use Rattle.std.specs.Prelude.{IfErr, IfOk, IsFalse, IsTrue, OnOk, IsSome, MatchOption};
-ghost use Rattle.std.specs.Prelude.{slice_get, string_bytes};
-ghost use Rattle.resolver_report.specs.Forests.{indent_from, text_of};
-ghost use Rattle.resolver_report.specs.Indents.{levels_in};
-ghost use Rattle.resolver_report.specs.Messages.{excluded, constraint_line as constraint_line_in, tree, is_quiet, is_reported as is_reported_in, lines_of};
-ghost use Rattle.resolver_report.specs.Messages.{reason_text, run_text, requirement_text, unmarked, with_group};
-ghost use Rattle.resolver_report.specs.PendingTexts.{HasLevels, IsTellStep, below_run as below_run_in, pending_text, pending_view};
-ghost use Rattle.resolver_report.specs.Outlines.{run_told_view};
-ghost use Rattle.resolver_report.specs.Tellings.{IsOutline, IsToldNode, graph_in, keys_in, marks_in, is_requires, tree_in, verdict_rest, version_text_in};
+ghost use Rattle.std.specs.Prelude.{◌≡◌, ◌∷◌, ◌++◌, ◌<◌, ◌==◌, [], false, length};
+ghost use Rattle.std.specs.Prelude.{IfErr, IfOk, IsFalse, IsTrue, OnOk, IsSome};
+ghost use Rattle.std.specs.Prelude.{string_bytes};
+ghost use Rattle.resolver_report.specs.Indents.{levels_in, Writes, WritesFirst, line_at};
+ghost use Rattle.resolver_report.specs.Messages.{excluded, constraint_line as constraint_line_in, is_reported as is_reported_in};
+ghost use Rattle.resolver_report.specs.Messages.{with_group, run_line};
+ghost use Rattle.resolver_report.specs.PendingTexts.{HasLevels, Tells, below_run as below_run_in, pending_text, pending_view};
+ghost use Rattle.resolver_report.specs.Outlines.{run_told_view, runs_view};
+ghost use Rattle.resolver_report.specs.Tellings.{IsOutline, IsToldNode, is_requires, verdict_rest, version_text_in, IsToldAt, constraint_lines, verdict_in, reason_in, candidate_text, runs_text, edges_text};
 ghost use Rattle.resolver_report.specs.Shapes.{solvable_at as solvable_at_place};
 ghost use Rattle.resolver_report.specs.Verdicts.{verdict_view};
 
@@ -65,8 +64,7 @@ fn told_node<'s, I: Interner>(
     branch: &[bool],
 ) -> Option<&'s NodeOutline>
     requires { IsOutline I.universe outline.now I.SolvableId.eq }
-    ensures { MatchOption result (is_quiet (I.universe outline.now.interner.now) (graph_in I.universe outline.now) (keys_in I.universe outline.now)
-        (marks_in I.universe outline.now) branch.now n.0 reported.now ≡ true) (λ node. IsToldNode I.universe outline.now branch.now n.0 reported.now node.now) }
+    ensures { IsToldAt I.universe outline.now branch.now n.0 reported.now result }
 {
     let Some(_) = solvable_at(&outline.findings.graph.graph, n.0) else {
         return None;
@@ -89,7 +87,7 @@ fn write_versions<I: Interner>(
 ) -> Result<(), Exhausted>
     requires outline { IsOutline I.universe outline.now I.SolvableId.eq }
     requires solvable { IsSome (solvable_at_place outline.now.findings.graph.now.graph n.0) }
-    ensures ok { OnOk result (string_bytes out.new ≡ string_bytes out.old ++ version_text_in I.universe outline.now n.0) }
+    ensures ok { OnOk result (Writes out.old out.new (version_text_in I.universe outline.now n.0)) }
     ensures memory { IfErr result (λ e. e ≡ Exhausted.Memory) }
 {
     let Some(group) = group_at_node(
@@ -115,8 +113,7 @@ fn write_constraint_line<I: Interner>(
     version_set: VersionSetId,
     out: &mut String,
 ) -> Result<(), Exhausted>
-    ensures ok { OnOk result (string_bytes out.new ≡ string_bytes out.old ++
-        (indent_from deeper.now.top_level_indent (levels_in deeper.now) ++ constraint_line_in (I.universe interner.now) version_set ++ 10 ∷ [])) }
+    ensures ok { OnOk result (Writes out.old out.new (line_at deeper.now (constraint_line_in (I.universe interner.now) version_set))) }
     ensures memory { IfErr result (λ e. e ≡ Exhausted.Memory) }
 {
     deeper.write(out)?;
@@ -134,11 +131,7 @@ fn write_next_constraint<I: Interner>(
     rest: &[VersionSetId],
     out: &mut String,
 ) -> Result<(), Exhausted>
-    ensures ok { OnOk result (string_bytes out.new ++
-        text_of indenter.now.top_level_indent (levels_in indenter.now)
-        (lines_of (map (constraint_line_in (I.universe interner.now)) rest.now)) ≡ string_bytes out.old ++
-        text_of indenter.now.top_level_indent (levels_in indenter.now)
-        (lines_of (map (constraint_line_in (I.universe interner.now)) (version_set ∷ rest.now)))) }
+    ensures ok { OnOk result (WritesFirst (constraint_lines (I.universe interner.now) indenter.now) out.old out.new version_set rest.now) }
     ensures memory { IfErr result (λ e. e ≡ Exhausted.Memory) }
 {
     let order = ChildOrder::before(rest);
@@ -154,8 +147,7 @@ fn write_constraint_lines<I: Interner>(
     version_sets: &[VersionSetId],
     out: &mut String,
 ) -> Result<(), Exhausted>
-    ensures ok { OnOk result (string_bytes out.new ≡ string_bytes out.old ++
-        text_of indenter.now.top_level_indent (levels_in indenter.now) (lines_of (map (constraint_line_in (I.universe interner.now)) version_sets.now))) }
+    ensures ok { OnOk result (Writes out.old out.new (constraint_lines (I.universe interner.now) indenter.now version_sets.now)) }
     ensures memory { IfErr result (λ e. e ≡ Exhausted.Memory) }
 {
     let mut rest = version_sets;
@@ -173,8 +165,7 @@ fn write_verdict<I: Interner>(
     verdict: &Verdict,
     out: &mut String,
 ) -> Result<(), Exhausted>
-    ensures ok { OnOk result (string_bytes out.new ≡ string_bytes out.old ++
-        verdict_rest I.universe outline.now indenter.now.top_level_indent (levels_in indenter.now) (verdict_view verdict.now)) }
+    ensures ok { OnOk result (Writes out.old out.new (verdict_in I.universe outline.now indenter.now (verdict_view verdict.now))) }
     ensures memory { IfErr result (λ e. e ≡ Exhausted.Memory) }
 {
     match verdict {
@@ -204,7 +195,7 @@ fn write_verdict<I: Interner>(
 
 /// Writes a text and ends the line.
 pub fn write_end(text: &str, out: &mut String) -> Result<(), Exhausted>
-    ensures ok { OnOk result (string_bytes out.new ≡ string_bytes out.old ++ (text.now ++ 10 ∷ [])) }
+    ensures ok { OnOk result (Writes out.old out.new (text.now ++ 10 ∷ [])) }
     ensures memory { IfErr result (λ e. e ≡ Exhausted.Memory) }
 {
     out.push_str(text)?;
@@ -218,8 +209,7 @@ fn write_reason_at<I: Interner>(
     n: NodeId,
     out: &mut String,
 ) -> Result<(), Exhausted>
-    ensures ok { OnOk result (string_bytes out.new ≡ string_bytes out.old ++
-        reason_text (I.universe outline.now.interner.now) (slice_get outline.now.findings.graph.now.graph.nodes n.0)) }
+    ensures ok { OnOk result (Writes out.old out.new (reason_in I.universe outline.now n)) }
     ensures memory { IfErr result (λ e. e ≡ Exhausted.Memory) }
 {
     match outline.findings.graph.graph.nodes().get(n.0) {
@@ -237,7 +227,7 @@ fn write_exclusion<I: Interner>(
     reason: NodeId,
     out: &mut String,
 ) -> Result<(), Exhausted>
-    ensures ok { OnOk result (string_bytes out.new ≡ string_bytes out.old ++ verdict_rest I.universe outline.now false [] (excluded reason)) }
+    ensures ok { OnOk result (Writes out.old out.new (verdict_rest I.universe outline.now false [] (excluded reason))) }
     ensures memory { IfErr result (λ e. e ≡ Exhausted.Memory) }
 {
     out.push_str(" is excluded because ")?;
@@ -256,9 +246,7 @@ fn write_candidate<I: Interner>(
 ) -> Result<(), Exhausted>
     requires outline { IsOutline I.universe outline.now I.SolvableId.eq }
     requires solvable { IsSome (solvable_at_place outline.now.findings.graph.now.graph n.0) }
-    ensures ok { OnOk result (string_bytes out.new ≡ string_bytes out.old ++
-        (indent_from indenter.now.top_level_indent (levels_in indenter.now) ++ version_text_in I.universe outline.now n.0 ++
-        verdict_rest I.universe outline.now indenter.now.top_level_indent (levels_in indenter.now) (verdict_view verdict.now))) }
+    ensures ok { OnOk result (Writes out.old out.new (candidate_text I.universe outline.now indenter.now n.0 (verdict_view verdict.now))) }
     ensures memory { IfErr result (λ e. e ≡ Exhausted.Memory) }
 {
     indenter.write(out)?;
@@ -285,9 +273,7 @@ fn write_run_line<I: Interner>(
     run: &RunOutline,
     out: &mut String,
 ) -> Result<(), Exhausted>
-    ensures ok { OnOk result (string_bytes out.new ≡ string_bytes out.old ++
-        (indent_from indenter.now.top_level_indent (levels_in indenter.now) ++
-        run_text top run.now.is_unresolved run.now.is_viable (requirement_text (I.universe interner.now) run.now.requirement) ++ 10 ∷ [])) }
+    ensures ok { OnOk result (Writes out.old out.new (line_at indenter.now (run_line (I.universe interner.now) top (run_told_view run.now)))) }
     ensures memory { IfErr result (λ e. e ≡ Exhausted.Memory) }
 {
     indenter.write(out)?;
@@ -324,8 +310,7 @@ fn tell_run<'s, I: Interner>(
     requires levels { HasLevels pending.old }
     requires candidates { pending.old.candidates.now ≡ [] }
     requires runs { pending.old.runs.now ≡ run.now ∷ rest.now }
-    ensures step { OnOk result (IsTellStep I.universe outline.now (pending_view pending.old) (pending_view pending.new) (string_bytes out.old)
-        (string_bytes out.new)) }
+    ensures step { OnOk result (Tells I.universe outline.now pending.old pending.new out.old out.new) }
     ensures levels { OnOk result (HasLevels pending.new) }
     ensures memory { IfErr result (λ e. e ≡ Exhausted.Memory) }
 {
@@ -364,8 +349,7 @@ fn tell_node<'s, I: Interner>(
     requires candidates { pending.old.candidates.now ≡ n ∷ rest.now }
     requires deep { length pending.old.frames.items < pending.old.limit }
     requires node { IsToldNode I.universe outline.now pending.old.branch.items n.0 pending.old.reported.items node.now }
-    ensures step { OnOk result (IsTellStep I.universe outline.now (pending_view pending.old) (pending_view pending.new) (string_bytes out.old)
-        (string_bytes out.new)) }
+    ensures step { OnOk result (Tells I.universe outline.now pending.old pending.new out.old out.new) }
     ensures levels { OnOk result (HasLevels pending.new) }
     ensures memory { IfErr result (λ e. e ≡ Exhausted.Memory) }
 {
@@ -391,8 +375,7 @@ fn tell_candidate<'s, I: Interner>(
     requires outline { IsOutline I.universe outline.now I.SolvableId.eq }
     requires levels { HasLevels pending.old }
     requires candidates { pending.old.candidates.now ≡ n ∷ rest.now }
-    ensures step { OnOk result (IsTellStep I.universe outline.now (pending_view pending.old) (pending_view pending.new) (string_bytes out.old)
-        (string_bytes out.new)) }
+    ensures step { OnOk result (Tells I.universe outline.now pending.old pending.new out.old out.new) }
     ensures levels { OnOk result (HasLevels pending.new) }
     ensures memory { IfErr result (λ e. e ≡ Exhausted.Memory) }
 {
@@ -416,8 +399,7 @@ fn tell_next<'s, I: Interner>(
 ) -> Result<bool, Exhausted>
     requires outline { IsOutline I.universe outline.now I.SolvableId.eq }
     requires levels { HasLevels pending.old }
-    ensures step { IfOk result (λ more.
-        IsTrue more → IsTellStep I.universe outline.now (pending_view pending.old) (pending_view pending.new) (string_bytes out.old) (string_bytes out.new)) }
+    ensures step { IfOk result (λ more. IsTrue more → Tells I.universe outline.now pending.old pending.new out.old out.new) }
     ensures levels { IfOk result (λ more. IsTrue more → HasLevels pending.new) }
     ensures told { IfOk result (λ more. IsFalse more → pending_text I.universe outline.now (pending_view pending.old) ≡ []) }
     ensures same { IfOk result (λ more. IsFalse more → string_bytes out.new ≡ string_bytes out.old) }
@@ -443,7 +425,7 @@ fn tell_pending<'s, I: Interner>(
 ) -> Result<(), Exhausted>
     requires outline { IsOutline I.universe outline.now I.SolvableId.eq }
     requires levels { HasLevels pending.old }
-    ensures text { OnOk result (string_bytes out.new ≡ string_bytes out.old ++ pending_text I.universe outline.now (pending_view pending.old)) }
+    ensures text { OnOk result (Writes out.old out.new (pending_text I.universe outline.now (pending_view pending.old))) }
     ensures memory { IfErr result (λ e. e ≡ Exhausted.Memory) }
 {
     while tell_next(outline, pending, out)? {}
@@ -520,9 +502,7 @@ fn tell_tree<'s, I: Interner>(
     out: &mut String,
 ) -> Result<(), Exhausted>
     requires { IsOutline I.universe outline.now I.SolvableId.eq }
-    ensures text { OnOk result (string_bytes out.new ≡ string_bytes out.old ++
-        text_of top_level_indent [] (tree_in I.universe outline.now (length outline.now.findings.graph.now.graph.nodes)
-        (unmarked outline.now.findings.graph.now.graph) true (map run_told_view runs.now) (unmarked outline.now.findings.graph.now.graph)).value) }
+    ensures text { OnOk result (Writes out.old out.new (runs_text I.universe outline.now top_level_indent (runs_view runs.now))) }
     ensures memory { IfErr result (λ e. e ≡ Exhausted.Memory) }
 {
     let count = outline.findings.graph.graph.nodes().len();
@@ -540,9 +520,7 @@ pub fn tell_edges<I: Interner>(
     out: &mut String,
 ) -> Result<(), Exhausted>
     requires { IsOutline I.universe outline.now I.SolvableId.eq }
-    ensures ok { OnOk result (string_bytes out.new ≡ string_bytes out.old ++
-        text_of top_level_indent [] (tree (I.universe outline.now.interner.now) (graph_in I.universe outline.now) (keys_in I.universe outline.now)
-        (marks_in I.universe outline.now) edges.now)) }
+    ensures ok { OnOk result (Writes out.old out.new (edges_text I.universe outline.now top_level_indent edges.now)) }
     ensures memory { IfErr result (λ e. e ≡ Exhausted.Memory) }
 {
     let alloc = *out.allocator();

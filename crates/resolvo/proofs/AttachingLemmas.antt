@@ -10,7 +10,7 @@ use Rattle.std.proofs.lemmas.Bool.{cases_eq, cases_lt, eqb-true}
 use Rattle.std.proofs.lemmas.List.Elements.{All-contains, All-push, Contains-append_cases, Contains-append_left, Contains-append_right}
 use Rattle.std.proofs.lemmas.List.{append-nil, get_or_push, take_all, take_more}
 use Rattle.std.proofs.lemmas.Option.{none-some, get_or_from_slice_get, same_Some, slice_get-get_or, slice_get_within}
-use Rattle.resolver_clause_store.specs.declared.Literal.{Literal}
+use Rattle.resolver_clause_store.specs.Literals.{Literal}
 use Rattle.resolver_clause_store.specs.declared.Reason.{Reason}
 use Rattle.resolver_clause_store.specs.declared.Reason.TheVariants.{Forced}
 use Rattle.resolver_clause_store.specs.declared.Slot.{Slot}
@@ -27,12 +27,12 @@ use Rattle.resolvo.specs.declared.propagator.Propagator.{Propagator}
 use Rattle.resolver_clause_store.specs.declared.Watch.{Watch}
 use Rattle.resolver_clause_store.specs.declared.WatchedPair.{WatchedPair}
 use Rattle.resolver_clause_store.specs.declared.Watches.{Watches}
-use Rattle.resolvo.specs.Attaching.{AreApart, EndsWith, Forces, IsHigh, IsHighPair, IsLower, IsNotBefore, IsRising, Recalls}
+use Rattle.resolvo.specs.Attaching.{AreApart, EndsWith, Forces, IsHigh, IsHighPair, IsLower, IsNotBefore, IsRising, Recalls, IsPairOf}
 use Rattle.resolvo.specs.Propagation.{IsJustified, IsUnit}
 use Rattle.resolver_clause_store.specs.Settled.{IsOpen}
-use Rattle.resolvo.specs.Propagators.{AreLate, AreWatched, Covers, IsConstant, IsExcused, IsNoted, IsPropagator, IsTrueAt, IsTrueBefore, WatchesTwo}
+use Rattle.resolvo.specs.Propagators.{AreLate, AreWatched, Covers, IsConstant, IsExcused, IsNoted, IsPropagator, IsTrueAt, IsTrueBefore}
 use Rattle.resolvo.specs.Propagators.{attached_of, head_of, late_of, pending_of}
-use Rattle.resolver_clause_store.specs.Watches.{FitClauses, FitsClause, IsWatching, list_at, pair_at, pair_from, unwatched, watched_pair}
+use Rattle.resolver_clause_store.specs.Watches.{FitClauses, FitsClause, HasLiteral, IsWatching, WatchesNothing, list_at, pair_at, unwatched}
 use Rattle.resolver_clause_store.specs.WatchesView.{lists_of, pairs_of}
 use Rattle.resolvo.proofs.PropagatorLemmas.{any-map, covers-kept, late-kept}
 use Rattle.resolver_clause_store.proofs.BoolLemmas.{beq-itself as beq-same}
@@ -55,7 +55,7 @@ propagator-grown table old new variables p watches size lists pairs grown it =
     record {
       lists = size ∙ ap (λ n. 2 * n) (sym grown.size);
       watched = subst (λ (ps : List WatchedPair). AreWatched table (lists_of watches) ps) (sym pairs)
-          (record { attached = it.watched.attached; own = it.watched.own; two = it.watched.two; constant = it.watched.constant; fit = fit });
+          (record { attached = it.watched.attached; own = it.watched.own; constant = it.watched.constant; fit = fit });
       late = late-kept table old new _ keeps it.late;
       pending = subst (λ (ps : List WatchedPair). All (λ n. n < length ps) (pending_of p)) (sym pairs) it.pending;
       inside = subst (λ (ps : List WatchedPair). All (λ (l : Late). l.number < length ps) (late_of p)) (sym pairs) it.inside;
@@ -267,7 +267,7 @@ noted-fewer late rest number other differ noted = ⊎_elim
 module _ (table : List (List Literal)) (trail : Trail) (pairs : List WatchedPair) (late left : List Late) (rest : List ℕ) (number head lower : ℕ)
     (less : lower ≤ head) (grown : (other : ℕ) → IsNoted late rest other → IsNoted left rest other) where
   covers-fewer : ((literal : Literal) → IsWatching pairs number literal → (fails : IsFalseBefore trail lower literal) →
-      IsExcused table trail left rest fails.slot.level number) → (number < length pairs → pair_at pairs number ≡ unwatched → IsNoted left rest number) →
+      IsExcused table trail left rest fails.slot.level number) → (number < length pairs → WatchesNothing (pair_at pairs number) → IsNoted left rest number) →
       Covers table trail pairs late (rest ++ number ∷ []) head → Covers table trail pairs left rest lower
   covers-fewer here constant covers = record {
     watched = λ other literal watching fails. ⊎_elim
@@ -286,7 +286,7 @@ module _ (table : List (List Literal)) (trail : Trail) (pairs : List WatchedPair
     constant = λ other inside is. ⊎_elim
         (λ (e : other ≡ number).
         let Noted : ℕ → Type 0 = λ n. IsNoted left rest n in
-        let Unwatched : ℕ → Type 0 = λ n. pair_at pairs n ≡ unwatched in
+        let Unwatched : ℕ → Type 0 = λ n. WatchesNothing (pair_at pairs n) in
         subst Noted (sym e) (constant (omega (arith, inside, e)) (subst Unwatched e is)))
         (λ (differ : other ≢ number). grown other (noted-fewer late rest number other differ (covers.constant other inside is)))
         (cases_eq other number);
@@ -302,13 +302,6 @@ excused-high trail literal clause place high fails satisfied = any-map _ _ _ (λ
     let t = value-true (slot_of trail l.variable) l.positive holds in
     record { slot = t.0; is = t.1; true_there = t.2; low = high fails.slot fails.is fails.false_there l.variable t.0 t.1 }) satisfied
 
-watching-pair : (pairs : List WatchedPair) (number : ℕ) (first second literal : Literal) → pair_at pairs number ≡ watched_pair first second →
-    IsWatching pairs number literal → (first ≡ literal) ⊎ (second ≡ literal)
-watching-pair pairs number first second literal are watching = ⊎_elim
-    (λ (e : (pair_at pairs number).first ≡ Some literal). inl (same_Some first literal (sym (ap (λ (p : WatchedPair). p.first) are) ∙ e)))
-    (λ (e : (pair_at pairs number).second ≡ Some literal). inr (same_Some second literal (sym (ap (λ (p : WatchedPair). p.second) are) ∙ e)))
-    watching
-
 pub passed-high : (table : List (List Literal)) (trail : Trail) (p : Propagator) (pending : List ℕ) (number : ℕ) → pending_of p ≡ pending ++
     number ∷ [] → IsHighPair trail (pair_at (pairs_of p.watches) number) → IsSatisfied trail (clause_at table number) → IsPropagator table trail p →
     IsPropagator table trail (record p { pending = pending })
@@ -320,10 +313,12 @@ passed-high table trail p pending number ends pair satisfied it =
     let fewer = all-fewer pending number (attached_of p) all in
     let covered = covers-fewer table trail pairs (late_of p) (late_of p) pending number (head_of p) (head_of p) (omega arith) (λ other noted. noted)
     (λ literal watching fails. ⊎_elim
-    (λ (e : pair.first ≡ literal). inl (excused-high trail literal _ _ (subst (λ (l : Literal). IsHigh trail l) e pair.first_high) fails satisfied))
-    (λ (e : pair.second ≡ literal). inl (excused-high trail literal _ _ (subst (λ (l : Literal). IsHigh trail l) e pair.second_high) fails satisfied))
-    (watching-pair pairs number pair.first pair.second literal pair.are watching))
-    (λ inside is. absurd (none-some pair.first (ap (λ (w : WatchedPair). w.first) (sym is ∙ pair.are))))
+    (λ (e : (pair_at pairs number).first ≡ literal).
+    inl (excused-high trail literal _ _ (subst (λ (l : Literal). IsHigh trail l) e pair.first) fails satisfied))
+    (λ (e : (pair_at pairs number).second ≡ literal).
+    inl (excused-high trail literal _ _ (subst (λ (l : Literal). IsHigh trail l) e pair.second) fails satisfied))
+    watching.is)
+    (λ inside none. absurd (pair.differ none))
     covers in
     assumption
 
@@ -362,8 +357,7 @@ passed-late table trail p late pending number ends is satisfied it =
 -- a clause with two literals without a value
 pub reopened : (table : List (List Literal)) (trail : Trail) (p : Propagator) (pending : List ℕ) (number head first second : ℕ) →
     pending_of p ≡ pending ++ number ∷ [] → head ≡ min (min p.head first) second →
-    ((literal : Literal) → (pair_at (pairs_of p.watches) number).first ≡ Some literal → IsNotBefore trail first literal) →
-    ((literal : Literal) → (pair_at (pairs_of p.watches) number).second ≡ Some literal → IsNotBefore trail second literal) →
+    IsNotBefore trail first (pair_at (pairs_of p.watches) number).first → IsNotBefore trail second (pair_at (pairs_of p.watches) number).second →
     IsOpen trail (clause_at table number) → IsPropagator table trail p → IsPropagator table trail (record p { pending = pending; head = head })
 reopened table trail p pending number head first second ends is first_place second_place free it =
     let pairs = pairs_of p.watches in
@@ -374,48 +368,37 @@ reopened table trail p pending number head first second ends is first_place seco
     let reached : head ≤ length_of trail = omega (arith, is, it.head) in
     let covered = covers-fewer table trail pairs (late_of p) (late_of p) pending number (head_of p) head (omega (arith, is)) (λ other noted. noted)
     (λ literal watching fails. ⊎_elim
-    (λ (e : (pair_at pairs number).first ≡ Some literal). absurd
-    (omega (arith, first_place literal e fails.slot fails.is fails.false_there, fails.earlier, is)))
-    (λ (e : (pair_at pairs number).second ≡ Some literal). absurd
-    (omega (arith, second_place literal e fails.slot fails.is fails.false_there, fails.earlier, is)))
-    watching)
+    (λ (e : (pair_at pairs number).first ≡ literal). absurd
+    (omega (arith, subst (λ (l : Literal). IsNotBefore trail first l) e first_place fails.slot fails.is fails.false_there, fails.earlier, is)))
+    (λ (e : (pair_at pairs number).second ≡ literal). absurd
+    (omega (arith, subst (λ (l : Literal). IsNotBefore trail second l) e second_place fails.slot fails.is fails.false_there, fails.earlier, is)))
+    watching.is)
     (λ inside none. absurd (free.differ (it.watched.constant number inside none free.first free.second free.has_first free.has_second)))
     covers in
     assumption
 
 -- the watches of a clause after the others
-pair-two : (clause : List Literal) (pair : Option (Literal × Literal)) → MatchOption pair (IsConstant clause) (λ two. AreApart clause two.0 two.1) →
-    (pair_from pair ≡ unwatched) ⊎ WatchesTwo (pair_from pair)
-pair-two clause None constant = inl refl
-pair-two clause (Some (first, second)) apart = inr (record { first = first; second = second; is = refl; differ = apart.differ })
+pair-own : (clause : List Literal) (pair : WatchedPair) → IsPairOf clause pair → (literal : Literal) → HasLiteral pair literal → Contains clause literal
+pair-own clause pair is literal has =
+    let apart = is.own has.differ in
+    ⊎_elim
+    (λ (e : pair.first ≡ literal). subst (λ (l : Literal). Contains clause l) e apart.has_first)
+    (λ (e : pair.second ≡ literal). subst (λ (l : Literal). Contains clause l) e apart.has_second)
+    has.is
 
-pair-own : (clause : List Literal) (pair : Option (Literal × Literal)) → MatchOption pair (IsConstant clause) (λ two. AreApart clause two.0 two.1) →
-    (literal : Literal) → ((pair_from pair).first ≡ Some literal) ⊎ ((pair_from pair).second ≡ Some literal) → Contains clause literal
-pair-own clause None constant literal watching =
-    ⊎_elim (λ (e : None ≡ Some literal). absurd (none-some literal e)) (λ (e : None ≡ Some literal). absurd (none-some literal e)) watching
-pair-own clause (Some (first, second)) apart literal watching = ⊎_elim
-    (λ (e : Some first ≡ Some literal). subst (λ (l : Literal). Contains clause l) (same_Some first literal e) apart.has_first)
-    (λ (e : Some second ≡ Some literal). subst (λ (l : Literal). Contains clause l) (same_Some second literal e) apart.has_second)
-    watching
-
-pair-constant : (clause : List Literal) (pair : Option (Literal × Literal)) → MatchOption pair (IsConstant clause) (λ two. AreApart clause two.0 two.1) →
-    pair_from pair ≡ unwatched → IsConstant clause
-pair-constant clause None constant is = constant
-pair-constant clause (Some (first, second)) apart is = absurd (none-some first (ap (λ (p : WatchedPair). p.first) (sym is)))
-
-module _ (pairs : List WatchedPair) (pair : Option (Literal × Literal)) where
+module _ (pairs : List WatchedPair) (pair : WatchedPair) where
   abbrev longer : List WatchedPair
-  longer = pairs ++ pair_from pair ∷ []
+  longer = pairs ++ pair ∷ []
 
   watching-cases : (number : ℕ) (literal : Literal) → IsWatching longer number literal → ((number < length pairs) × IsWatching pairs number literal) ⊎
-      ((number ≡ length pairs) × (((pair_from pair).first ≡ Some literal) ⊎ ((pair_from pair).second ≡ Some literal)))
+      ((number ≡ length pairs) × HasLiteral pair literal)
   watching-cases number literal watching =
-      let Watching : WatchedPair → Type 0 = λ p. (p.first ≡ Some literal) ⊎ (p.second ≡ Some literal) in
+      let Watching : WatchedPair → Type 0 = λ p. HasLiteral p literal in
       ⊎_elim
-      (λ (less : number < length pairs). inl (less, subst Watching (pair-before pairs (pair_from pair) number less) watching))
+      (λ (less : number < length pairs). inl (less, subst Watching (pair-before pairs pair number less) watching))
       (λ (more : length pairs ≤ number).
-      let end : number ≡ length pairs = omega (arith, more, watching-inside longer number literal watching, length-append pairs (pair_from pair ∷ [])) in
-      inr (end, subst Watching (pair-last pairs (pair_from pair) number (sym end)) watching))
+      let end : number ≡ length pairs = omega (arith, more, watching-inside longer number literal watching, length-append pairs (pair ∷ [])) in
+      inr (end, subst Watching (pair-last pairs pair number (sym end)) watching))
       (cases_lt number (length pairs))
 
   covers-push : (table : List (List Literal)) (trail : Trail) (late : List Late) (pending : List ℕ) (head : ℕ) →
@@ -433,22 +416,14 @@ module _ (pairs : List WatchedPair) (pair : Option (Literal × Literal)) where
             (λ (holds : Any (IsTrueAt trail fails.slot.level) (clause_at table number)). inl holds)
             (λ (noted : IsNoted late pending number). inr (grown number noted))
             (covers.watched number literal w.1 fails))
-            (λ (w : (number ≡ length pairs) × (((pair_from pair).first ≡ Some literal) ⊎ ((pair_from pair).second ≡ Some literal))). inr (last number w.0))
+            (λ (w : (number ≡ length pairs) × HasLiteral pair literal). inr (last number w.0))
             (watching-cases number literal watching);
         constant = λ number inside is. ⊎_elim
-            (λ (less : number < length pairs). grown number (covers.constant number less (sym (pair-before pairs (pair_from pair) number less) ∙ is)))
-            (λ (past : length pairs ≤ number). last number (omega (arith, past, inside, length-append pairs (pair_from pair ∷ []))))
+            (λ (less : number < length pairs).
+            grown number (covers.constant number less (subst (λ (p : WatchedPair). WatchesNothing p) (pair-before pairs pair number less) is)))
+            (λ (past : length pairs ≤ number). last number (omega (arith, past, inside, length-append pairs (pair ∷ []))))
             (cases_lt number (length pairs));
       }
-
-pub pair-has : (clause : List Literal) (pair : Option (Literal × Literal)) (first second : Literal) → pair ≡ Some (first, second) →
-    MatchOption pair (IsConstant clause) (λ two. AreApart clause two.0 two.1) → Contains clause first × Contains clause second
-pair-has clause None first second e chosen = absurd (none-some (first, second) e)
-pair-has clause (Some (one, other)) first second e chosen =
-    let same : (one, other) ≡ (first, second) = same_Some (one, other) (first, second) e in (
-      subst (λ (l : Literal). Contains clause l) (ap (λ (two : Literal × Literal). two.0) same) chosen.has_first,
-      subst (λ (l : Literal). Contains clause l) (ap (λ (two : Literal × Literal). two.1) same) chosen.has_second,
-    )
 
 -- a clause after those of the table
 module _ (table : List (List Literal)) (clause : List Literal) (pairs : List WatchedPair) (size : length pairs ≡ length table) where
@@ -461,44 +436,37 @@ module _ (table : List (List Literal)) (clause : List Literal) (pairs : List Wat
   added-before : (number : ℕ) → number < length pairs → clause_at added number ≡ clause_at table number
   added-before number less = clause_at-push table clause number (omega (arith, less, size))
 
-  watched-added : (pair : Option (Literal × Literal)) (old new : List (List Watch)) →
-      MatchOption pair (IsConstant clause) (λ two. AreApart clause two.0 two.1) → FitClauses added new → AreWatched table old pairs →
-      AreWatched added new (pairs ++ pair_from pair ∷ [])
+  watched-added : (pair : WatchedPair) (old new : List (List Watch)) →
+      IsPairOf clause pair → FitClauses added new → AreWatched table old pairs →
+      AreWatched added new (pairs ++ pair ∷ [])
   watched-added pair old new chosen fit are = record {
-    attached = length-append pairs (pair_from pair ∷ []) ∙ ap (λ (n : ℕ). n + 1) size ∙ sym (length-append table (clause ∷ []));
+    attached = length-append pairs (pair ∷ []) ∙ ap (λ (n : ℕ). n + 1) size ∙ sym (length-append table (clause ∷ []));
     own = λ number literal watching. ⊎_elim
         (λ (w : (number < length pairs) × IsWatching pairs number literal).
         subst (λ (c : List Literal). Contains c literal) (sym (added-before number w.0)) (are.own number literal w.1))
-        (λ (w : (number ≡ length pairs) × (((pair_from pair).first ≡ Some literal) ⊎ ((pair_from pair).second ≡ Some literal))). subst (λ (c : List Literal).
+        (λ (w : (number ≡ length pairs) × HasLiteral pair literal). subst (λ (c : List Literal).
         Contains c literal) (sym (ap (λ (n : ℕ). clause_at added n) w.0 ∙ added-at)) (pair-own _ pair chosen literal w.1))
         (watching-cases pairs pair number literal watching);
-    two = λ number inside. ⊎_elim
-        (λ (less : number < length pairs).
-        subst (λ (p : WatchedPair). (p ≡ unwatched) ⊎ WatchesTwo p) (sym (pair-before pairs (pair_from pair) number less)) (are.two number less))
-        (λ (past : length pairs ≤ number).
-        let end : length pairs ≡ number = omega (arith, past, inside, length-append pairs (pair_from pair ∷ [])) in
-        subst (λ (p : WatchedPair). (p ≡ unwatched) ⊎ WatchesTwo p) (sym (pair-last pairs (pair_from pair) number end)) (pair-two _ pair chosen))
-        (cases_lt number (length pairs));
     constant = λ number inside is. ⊎_elim
         (λ (less : number < length pairs).
         subst (λ (c : List Literal). IsConstant c) (sym (added-before number less))
-        (are.constant number less (sym (pair-before pairs (pair_from pair) number less) ∙ is)))
+        (are.constant number less (subst (λ (p : WatchedPair). WatchesNothing p) (pair-before pairs pair number less) is)))
         (λ (past : length pairs ≤ number).
-        let end : length pairs ≡ number = omega (arith, past, inside, length-append pairs (pair_from pair ∷ [])) in
+        let end : length pairs ≡ number = omega (arith, past, inside, length-append pairs (pair ∷ [])) in
         subst (λ (c : List Literal). IsConstant c) (sym (ap (λ (n : ℕ). clause_at added n) (sym end) ∙ added-at))
-        (pair-constant _ pair chosen (sym (pair-last pairs (pair_from pair) number end) ∙ is)))
+        (chosen.constant (subst (λ (p : WatchedPair). WatchesNothing p) (pair-last pairs pair number end) is)))
         (cases_lt number (length pairs));
     fit = fit;
   }
 
 pub attached-added : (table : List (List Literal)) (clause : List Literal) (trail : Trail) (p : Propagator) (watches : Watches)
-    (pending : List ℕ) (pair : Option (Literal × Literal)) (binary : Bool) → pairs_of watches ≡ pairs_of p.watches ++ pair_from pair ∷ [] →
+    (pending : List ℕ) (pair : WatchedPair) (binary : Bool) → pairs_of watches ≡ pairs_of p.watches ++ pair ∷ [] →
     length (lists_of watches) ≡ length (lists_of p.watches) →
-    (((first second : Literal) → pair ≡ Some (first, second) → Contains (clause_at (table ++ clause ∷ []) (attached_of p)) first ×
-    Contains (clause_at (table ++ clause ∷ []) (attached_of p)) second) →
+    ((pair.first ≢ pair.second → Contains (clause_at (table ++ clause ∷ []) (attached_of p)) pair.first ×
+    Contains (clause_at (table ++ clause ∷ []) (attached_of p)) pair.second) →
     (binary ≡ true → length (clause_at (table ++ clause ∷ []) (attached_of p)) ≡ 2) → FitClauses (table ++ clause ∷ []) (lists_of p.watches) →
     FitClauses (table ++ clause ∷ []) (lists_of watches)) → binary ≡ eqb (length clause) 2 →
-    pending ≡ pending_of p ++ attached_of p ∷ [] → MatchOption pair (IsConstant clause) (λ two. AreApart clause two.0 two.1) →
+    pending ≡ pending_of p ++ attached_of p ∷ [] → IsPairOf clause pair →
     IsPropagator table trail p → IsPropagator (table ++ clause ∷ []) trail (record p { watches = watches; pending = pending })
 attached-added table clause trail p watches pending pair binary pairs lists fit tested is chosen it =
     let more = table ++ clause ∷ [] in
@@ -506,11 +474,10 @@ attached-added table clause trail p watches pending pair binary pairs lists fit 
     let size = it.watched.attached in
     let longer : length table ≤ length more = simp length-append (omega arith) in
     let same = clause_at-push table clause in
-    let long : length (pairs_of watches) ≡ attached_of p + 1 = ap length pairs ∙ length-append before (pair_from pair ∷ []) in
-    let here : (first second : Literal) → pair ≡ Some (first, second) → Contains (clause_at more (attached_of p)) first ×
-    Contains (clause_at more (attached_of p)) second = λ first second e.
-    subst (λ (c : List Literal). Contains c first × Contains c second) (sym (added-at table clause before size))
-    (pair-has clause pair first second e chosen)
+    let long : length (pairs_of watches) ≡ attached_of p + 1 = ap length pairs ∙ length-append before (pair ∷ []) in
+    let here : pair.first ≢ pair.second → Contains (clause_at more (attached_of p)) pair.first × Contains (clause_at more (attached_of p)) pair.second =
+    λ differ. subst (λ (c : List Literal). Contains c pair.first × Contains c pair.second) (sym (added-at table clause before size))
+    ((chosen.own differ).has_first, (chosen.own differ).has_second)
     in
     let two : binary ≡ true → length (clause_at more (attached_of p)) ≡ 2 = λ e.
     ap (λ (c : List Literal). length c) (added-at table clause before size) ∙ eqb-true (length clause) 2 (sym tested ∙ e) in

@@ -11,7 +11,7 @@ use Rattle.resolver_clause_store.specs.declared.RequirementClause.{RequirementCl
 use Rattle.resolver_clause_store.specs.Near.{IsNear}
 use Rattle.resolver_clause_store.specs.TrailView.{KeepsPlaces, length_of, slot_of, variable_at, variable_count}
 use Rattle.resolver_clause_store.specs.Universe.{Universe, Demands}
-use Rattle.resolver_clause_store.specs.declared.Literal.{Literal}
+use Rattle.resolver_clause_store.specs.Literals.{Literal}
 use Rattle.resolver_clause_store.specs.declared.Origin.{Origin}
 use Rattle.resolver_clause_store.specs.declared.Origin.TheVariants.{Solvable}
 use Rattle.resolver_clause_store.specs.declared.Reason.{Reason}
@@ -207,11 +207,11 @@ module _ {N S : Type 0} where
         record {
           read = keeps_more u old mid from keys encoding following is reads;
           near = keeps_near;
-          origins = subst Origins following.encoding more.origins;
-          table = subst Table following.encoding more.table;
-          exempt = more.exempt ∙ ap (λ (e : Encoding N S). (notes_in e).exempt) following.encoding;
+          origins = subst Origins following.encoding more.growth.origins;
+          table = subst Table following.encoding more.growth.table;
+          exempt = more.growth.exempt ∙ ap (λ (e : Encoding N S). (notes_in e).exempt) following.encoding;
           asked = subst Asked following.encoding asked_stays;
-          seen = subst Seen following.encoding (Extends-within (notes_of mid).seen (notes_in encoding).seen more.seen);
+          seen = subst Seen following.encoding (Extends-within (notes_of mid).seen (notes_in encoding).seen more.growth.seen);
           turn = followed.turn;
         }
 

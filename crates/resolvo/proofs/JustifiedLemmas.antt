@@ -2,7 +2,7 @@
 use Rattle.std.proofs.Common.{◌≡◌, ℕ, ◌<◌, ◌⊎◌, List, length, get_or, None, inl, inr, refl, sym, ap, ◌∙◌, subst, ⊎_elim}
 use Rattle.std.specs.List.{Contains}
 use Rattle.std.proofs.lemmas.Bool.{both_ways}
-use Rattle.resolver_clause_store.specs.declared.Literal.{Literal}
+use Rattle.resolver_clause_store.specs.Literals.{Literal}
 use Rattle.resolver_clause_store.specs.declared.StoredRequirement.{StoredRequirement}
 use Rattle.resolver_clause_store.specs.declared.Slot.{Slot}
 use Rattle.resolver_clause_store.specs.declared.Reason.{Reason}

@@ -7,7 +7,7 @@ use Rattle.std.proofs.lemmas.Bool.{cases_eq, cases_lt, false≢true}
 use Rattle.std.proofs.lemmas.List.{get_or_append_left, get_or_past, get_or-replicate, length-replicate, take_more}
 use Rattle.std.proofs.lemmas.List.Elements.{All-append, All-cons, All-more, All-nil, All-weaker, Contains-append_left}
 use Rattle.resolver_clause_store.specs.Lists.{IsWithin}
-use Rattle.resolver_clause_store.specs.declared.Literal.{Literal}
+use Rattle.resolver_clause_store.specs.Literals.{Literal}
 use Rattle.resolver_clause_store.proofs.FormulaLemmas.{clause_at-last, clause_at-push}
 use Rattle.resolvo.specs.MarkedClauses.{AreMarkedClauses, AreMarksOf, IsMarkedClause, IsMarked, IsThere}
 use Rattle.std.proofs.lemmas.List.Elements.{Contains-push as at_end}

@@ -1,11 +1,11 @@
 -- The invariant of propagation is kept when the trail gains literals, and in the end each clause is settled.
-use Rattle.std.proofs.Common.{◌≡◌, ℕ, ◌*◌, ◌<◌, ◌≤◌, ◌⊎◌, List, [], length, get_or, Option, Some, None, Bool, true, false, inl, inr, refl, sym, ap, ◌∙◌, subst}
+use Rattle.std.proofs.Common.{◌≡◌, ◌≢◌, ℕ, ◌*◌, ◌<◌, ◌≤◌, ◌⊎◌, List, [], length, get_or, Option, Some, None, Bool, true, false, inl, inr, refl, sym, ap, ◌∙◌, subst}
 use Rattle.std.proofs.Common.{⊎_elim, arith}
 use Rattle.std.specs.Prelude.{Any, Contains}
 use Rattle.std.specs.Bool.{beq}
 use Rattle.std.specs.Option.{option_map}
 use Rattle.std.proofs.lemmas.Option.{same_Some}
-use Rattle.resolver_clause_store.specs.declared.Literal.{Literal}
+use Rattle.resolver_clause_store.specs.Literals.{Literal}
 use Rattle.resolver_clause_store.specs.declared.Slot.{Slot}
 use Rattle.resolver_clause_store.specs.declared.Reason.{Reason}
 use Rattle.resolver_clause_store.specs.declared.Trail.{Trail}
@@ -15,8 +15,9 @@ use Rattle.resolver_clause_store.specs.TrailView.{slot_of, length_of, literal_va
 use Rattle.resolver_clause_store.proofs.KeptLemmas.{keeps_all, slot_at}
 use Rattle.resolver_clause_store.proofs.TrailLemmas.{Keeps, false-before, keeps-gains}
 use Rattle.resolver_clause_store.specs.Settled.{AllSettled}
-use Rattle.resolvo.specs.Propagators.{AreLate, Covers, IsAttached, IsExcused, IsNoted, IsPropagator, IsTrueAt, IsTrueBefore, WatchesTwo, attached_of, head_of}
-use Rattle.resolver_clause_store.specs.Watches.{IsWatching, pair_at, unwatched}
+use Rattle.resolvo.specs.Propagators.{AreLate, Covers, IsAttached, IsExcused, IsNoted, IsPropagator, IsTrueAt, IsTrueBefore, attached_of, head_of}
+use Rattle.resolver_clause_store.specs.Watches.{IsWatching, pair_at}
+use Rattle.resolver_clause_store.proofs.WatchListLemmas.{cases_literal}
 use Rattle.resolver_clause_store.specs.WatchesView.{lists_of, pairs_of}
 use Rattle.resolvo.specs.declared.propagator.Late.{Late}
 use Rattle.resolvo.specs.declared.propagator.Propagator.{Propagator}
@@ -145,23 +146,23 @@ all-settled table trail it is attached done = λ number within.
     let pair = pair_at (pairs_of it.watches) number in
     let inside : number < attached_of it = omega (arith, within, attached.all) in
     ⊎_elim
-    (λ (none : pair ≡ unwatched). inl (noted-true table trail _ _ number is.late attached.none (is.covers.constant number inside none)))
-    (λ (two : WatchesTwo pair).
-    let first : IsWatching (pairs_of it.watches) number two.first = inl (ap (λ (p : WatchedPair). p.first) two.is) in
-    let second : IsWatching (pairs_of it.watches) number two.second = inr (ap (λ (p : WatchedPair). p.second) two.is) in
+    (λ (none : pair.first ≡ pair.second). inl (noted-true table trail _ _ number is.late attached.none (is.covers.constant number inside none)))
+    (λ (differ : pair.first ≢ pair.second).
+    let first : IsWatching (pairs_of it.watches) number pair.first = record { differ = differ; is = inl refl } in
+    let second : IsWatching (pairs_of it.watches) number pair.second = record { differ = differ; is = inr refl } in
     ⊎_elim
-    (λ (free : literal_value trail two.first ≡ None). ⊎_elim
-    (λ (also : literal_value trail two.second ≡ None). inr (record {
-      first = two.first;
-      second = two.second;
-      has_first = is.watched.own number two.first first;
-      has_second = is.watched.own number two.second second;
-      differ = two.differ;
+    (λ (free : literal_value trail pair.first ≡ None). ⊎_elim
+    (λ (also : literal_value trail pair.second ≡ None). inr (record {
+      first = pair.first;
+      second = pair.second;
+      has_first = is.watched.own number pair.first first;
+      has_second = is.watched.own number pair.second second;
+      differ = differ;
       first_open = free;
       second_open = also;
     }))
     (λ (yes : IsSatisfied trail (clause_at table number)). inl yes)
-    (watched-settled table trail it is attached done number two.second second))
+    (watched-settled table trail it is attached done number pair.second second))
     (λ (yes : IsSatisfied trail (clause_at table number)). inl yes)
-    (watched-settled table trail it is attached done number two.first first))
-    (is.watched.two number inside)
+    (watched-settled table trail it is attached done number pair.first first))
+    (cases_literal pair.first pair.second)

@@ -11,7 +11,7 @@ use Rattle.resolver_clause_store.specs.Formula.{Satisfies, clause_at, literal_tr
 use Rattle.resolver_clause_store.specs.Outcomes.{IsCore, IsFalseBefore}
 use Rattle.resolver_clause_store.specs.TrailView.{slot_of, variable_count}
 use Rattle.resolver_clause_store.specs.Universe.{Universe, Demands}
-use Rattle.resolver_clause_store.specs.declared.Literal.{Literal}
+use Rattle.resolver_clause_store.specs.Literals.{Literal}
 use Rattle.resolver_clause_store.specs.declared.Origin.TheVariants.{Root, Solvable}
 use Rattle.resolver_clause_store.specs.declared.Reason.TheVariants.{Assumed, Decided, Forced}
 use Rattle.resolver_clause_store.specs.declared.StoredRequirement.{StoredRequirement}

@@ -13,7 +13,7 @@ use Rattle.resolver_clause_store.specs.Lists.{IsWithin, Meets}
 use Rattle.resolver_clause_store.specs.TrailView.{KeepsPlaces, length_of, variable_at, variable_count}
 use Rattle.resolver_clause_store.specs.Universe.{Universe, Demands}
 use Rattle.resolver_clause_store.specs.Variables.{Keeps}
-use Rattle.resolver_clause_store.specs.declared.Literal.{Literal}
+use Rattle.resolver_clause_store.specs.Literals.{Literal}
 use Rattle.resolver_clause_store.specs.declared.Origin.{Origin}
 use Rattle.resolver_clause_store.specs.declared.Origin.TheVariants.{Root, Solvable}
 use Rattle.resolver_clause_store.specs.declared.RequirementClause.{RequirementClause}
@@ -275,7 +275,7 @@ module _ {N S : Type 0} where
   read_more u old mid from keys encoding rounds following is more reads =
       let ReadFor : List S → Type 0 = λ set. IsReadSoFar u rounds.reading.root set (notes_in encoding) in
       let longer : length (notes_of mid).origins ≤ length (notes_in encoding).origins =
-      Keeps-longer (notes_of mid).origins (notes_in encoding).origins Root more.origins in
+      Keeps-longer (notes_of mid).origins (notes_in encoding).origins Root more.growth.origins in
       let bookmark : HasBookmark mid = following.bookmark in
       record {
         reading = record {
@@ -287,14 +287,14 @@ module _ {N S : Type 0} where
           given = (notes_of mid).table;
           numbers = (notes_of mid).requirements;
           loaded = following.loaded.loaded;
-          clauses = more.table;
-          requiring = more.requirements;
+          clauses = more.growth.table;
+          requiring = more.growth.requirements;
         };
         variables = omega (arith, longer, following.loaded.variables);
         bookmark = record {
           base = bookmark.base;
           follows = follows_still (notes_of mid).origins (notes_in encoding).origins bookmark.base bookmark.base (length_of bookmark.base)
-              more.origins bookmark.known (keeps_itself bookmark.base (length_of bookmark.base) (omega arith)) mid.chosen bookmark.follows;
+              more.growth.origins bookmark.known (keeps_itself bookmark.base (length_of bookmark.base) (omega arith)) mid.chosen bookmark.follows;
           kept = bookmark.kept;
           known = omega (arith, bookmark.known, longer);
         };

@@ -17,7 +17,7 @@ use Rattle.resolver_clause_store.specs.TrailView.{Gains, IsCut, KeepsPlaces, len
 use Rattle.resolver_clause_store.specs.Universe.{Universe, Demands}
 use Rattle.resolver_clause_store.specs.Valid.{IsValid}
 use Rattle.resolver_clause_store.specs.Variables.{AreDistinct, Keeps}
-use Rattle.resolver_clause_store.specs.declared.Literal.{Literal}
+use Rattle.resolver_clause_store.specs.Literals.{Literal}
 use Rattle.resolver_clause_store.specs.declared.Origin.{Origin}
 use Rattle.resolver_clause_store.specs.declared.Origin.TheVariants.{Root, Solvable}
 use Rattle.resolver_clause_store.specs.declared.Reason.TheVariants.{Assumed, Decided}
@@ -45,7 +45,7 @@ use Rattle.resolver_encoding.proofs.EncodingLemmas.{Extends-same, Extends-trans,
 use Rattle.resolver_encoding.proofs.LeftOutLemmas.{left_out_more, left_out_nowhere, spares_exempting, spares_present}
 use Rattle.resolver_encoding.proofs.TrailLemmas.{before_extends, follows_still, none_at, same_before, same_origin}
 use Rattle.resolvo.specs.ClauseSearches.{IsConsistent, IsRootTurn, KeepsLoaded, KeepsBookmark, KeepsTurn, base_of, held_of, kept_of, trail_of}
-use Rattle.resolvo.specs.RoundStates.{AreRounds, GoesOn, HasAssumed, HasBookmark, HasTurned, IsAnswering, IsFollowing, IsBetween, IsRefusing, IsSearchOf}
+use Rattle.resolvo.specs.RoundStates.{AreAtRest, AreRounds, GoesOn, HasAssumed, HasBookmark, HasTurned, IsAnswering, IsFollowing, IsBetween, IsRefusing, IsSearchOf}
 use Rattle.resolvo.specs.RoundStates.{IsStanding, IsStill, IsTurned, IsUnanswered, is_accepted, is_refused, was_chosen, chosen_of}
 use Rattle.resolvo.specs.RoundStates.{notes_of}
 use Rattle.resolvo.specs.declared.clause_search.ClauseSearch.{ClauseSearch}
@@ -818,7 +818,7 @@ module _ {N S : Type 0} where
   -- the entries that are held from now on
   module _ (u : Universe N S) (old : Rounds N S) (search : ClauseSearch) (trail : trail_of search ≡ trail_of old.search)
       (count : kept_of search ≡ kept_of old.search) where
-    pub rounds_held : AreRounds u old → IsConsistent search → KeepsLoaded old.search search → AreRounds u (record old { search = search })
+    rounds_held : AreRounds u old → IsConsistent search → KeepsLoaded old.search search → AreRounds u (record old { search = search })
     rounds_held rounds consistent loads =
         let Kept : Trail → ℕ → Type 0 = λ t n. KeepsPlaces rounds.bookmark.base t n in
         let KeptIn : Trail → Type 0 = λ t. Kept t (kept_of search) in
@@ -827,13 +827,15 @@ module _ {N S : Type 0} where
         let kept = subst KeptIn (sym trail) (subst (Kept (trail_of old.search)) (sym count) rounds.bookmark.kept) in
         Prim.search rounds.bookmark.follows
 
-    pub still_held : held_of search ≡ length_of (trail_of search) → kept_of old.search ≡ length_of (trail_of old.search) →
-        chosen_of old ≡ solvables_before (notes_of old).origins (trail_of old.search) (length_of (trail_of old.search)) →
-        IsStill (record old { search = search })
-    still_held held bookmarked chosen = record {
-      held = held;
-      bookmarked = count ∙ bookmarked ∙ ap length_of (sym trail);
-      chosen = chosen ∙ ap (λ (t : Trail). solvables_before (notes_of old).origins t (length_of t)) (sym trail);
+    pub rest_held : held_of search ≡ length_of (trail_of search) → AreRounds u old → IsConsistent search → KeepsLoaded old.search search →
+        IsAnswering u old → AreAtRest u (record old { search = search })
+    rest_held held rounds consistent loads answering = record {
+      rounds = rounds_held rounds consistent loads;
+      still = record {
+        held = held;
+        bookmarked = count ∙ answering.bookmarked ∙ ap length_of (sym trail);
+        chosen = answering.chosen ∙ ap (λ (t : Trail). solvables_before (notes_of old).origins t (length_of t)) (sym trail);
+      };
     }
 
     standing_held : (root : Demands) (taken refused seeds : List S) (packages : List N) → IsStanding u root taken refused seeds packages old →

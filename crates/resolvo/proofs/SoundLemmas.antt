@@ -16,7 +16,7 @@ use Rattle.resolver_clause_store.specs.Statements.{lists_of, statement_of, IsPre
 use Rattle.resolver_clause_store.specs.Rules.{Obeys}
 use Rattle.resolver_clause_store.specs.declared.By.{By}
 use Rattle.resolver_clause_store.specs.declared.By.TheVariants.{Root, Solvable}
-use Rattle.resolver_clause_store.specs.declared.Literal.{Literal}
+use Rattle.resolver_clause_store.specs.Literals.{Literal}
 use Rattle.resolver_clause_store.specs.declared.Rule.{Rule}
 use Rattle.resolver_clause_store.specs.declared.Rule.TheVariants.{Requires, Constrains, Lock, Excluded, OnePerPackage}
 use Rattle.resolvo.proofs.LineLemmas.{All-each, marked_in, zip_both, bit_line_from, member_line_from, line_from, rule_of_line}

@@ -3,7 +3,7 @@ use Rattle.std.proofs.Common.{◌≡◌, ◌≢◌, ℕ, zero, suc, ◌<◌, ◌
 use Rattle.std.proofs.Common.{sym, ap, ◌∙◌, ⊎_elim, arith}
 use Rattle.std.specs.Prelude.{All, Contains}
 use Rattle.std.proofs.lemmas.List.Elements.{All-cons, All-nil}
-use Rattle.resolver_clause_store.specs.declared.Literal.{Literal}
+use Rattle.resolver_clause_store.specs.Literals.{Literal}
 use Rattle.resolver_clause_store.specs.declared.Trail.{Trail}
 use Rattle.resolver_clause_store.specs.Formula.{clause_at}
 use Rattle.resolver_clause_store.specs.TrailView.{literal_value}
@@ -59,7 +59,7 @@ module _ (table : List (List Literal)) (trail : Trail) (it : Propagator) (falsif
   pub own-false : (number : ℕ) (other : Literal) → IsPaired (pairs_of it.watches) number falsified.literal other →
       Contains (clause_at table number) falsified.literal
   own-false number other pair = visiting.propagator.watched.own number falsified.literal
-      (paired-other _ number other falsified.literal (⊎_elim (λ e. inr e) (λ e. inl e) pair.is))
+      (paired-other _ number other falsified.literal (λ same. pair.differ (sym same)) (⊎_elim (λ e. inr e) (λ e. inl e) pair.is))
 
   -- a watching clause of two literals is unit if the other one has no value
   pub binary-unit : (number : ℕ) (other : Literal) → IsWatching (pairs_of it.watches) number falsified.literal → Contains (clause_at table number) other →

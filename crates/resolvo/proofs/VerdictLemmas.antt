@@ -11,7 +11,7 @@ use Rattle.resolver_clause_store.specs.Formula.{AreBelow, IsBelow, MakesTrue, cl
 use Rattle.resolver_clause_store.specs.Outcomes.{IsCore, IsFinished, IsMet, IsPropagated}
 use Rattle.resolver_clause_store.specs.Rules.{IsRefuted}
 use Rattle.resolver_clause_store.specs.TrailView.{literal_value, slot_of}
-use Rattle.resolver_clause_store.specs.declared.Literal.{Literal}
+use Rattle.resolver_clause_store.specs.Literals.{Literal}
 use Rattle.resolver_clause_store.specs.declared.RequirementClause.{RequirementClause}
 use Rattle.resolver_clause_store.specs.declared.Rule.{Rule}
 use Rattle.resolver_clause_store.specs.declared.Slot.{Slot}

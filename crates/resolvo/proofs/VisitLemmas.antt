@@ -10,7 +10,7 @@ use Rattle.std.proofs.lemmas.List.Quantifiers.{Any-push}
 use Rattle.std.proofs.lemmas.Option.{same_Some, none-some, slice_get_within, get_or_from_slice_get, slice_get-get_or}
 use Rattle.resolver_clause_store.specs.Slots.{is_decided}
 use Rattle.resolvo.specs.Propagation.{Extends, IsJustified, IsUnit, Propagates}
-use Rattle.resolver_clause_store.specs.declared.Literal.{Literal}
+use Rattle.resolver_clause_store.specs.Literals.{Literal, list_number}
 use Rattle.resolver_clause_store.specs.declared.Slot.{Slot}
 use Rattle.resolver_clause_store.specs.declared.Reason.TheVariants.{Forced}
 use Rattle.resolver_clause_store.specs.declared.Trail.{Trail}
@@ -20,12 +20,11 @@ use Rattle.resolver_clause_store.specs.TrailView.{slot_of, length_of, level_of, 
 use Rattle.resolver_clause_store.proofs.PlaceLemmas.{place_cases}
 use Rattle.resolver_clause_store.proofs.TrailLemmas.{Keeps, gains-cases, keeps-gains, value-true}
 use Rattle.resolver_clause_store.proofs.WatchListLemmas.{fit-at}
-use Rattle.resolvo.specs.Propagators.{AreLate, AreWatched, Covers, IsExcused, IsNoted, IsPropagator, IsTrueAt, IsTrueBefore, WatchesTwo, attached_of, head_of}
+use Rattle.resolvo.specs.Propagators.{AreLate, AreWatched, Covers, IsExcused, IsNoted, IsPropagator, IsTrueAt, IsTrueBefore, attached_of, head_of}
 use Rattle.resolvo.specs.Propagators.{late_of, pending_of}
-use Rattle.resolvo.specs.Visits.{GoesOn, IsPaired, IsPlaced, IsVisiting, Replaces, StandsAt, watchers_of}
+use Rattle.resolvo.specs.Visits.{GoesOn, IsPaired, IsPlaced, IsVisiting, Replaces, StandsAt, late_with, watchers_of}
 use Rattle.resolver_clause_store.specs.Unsatisfied.{IsFirstUnsatisfied, IsNextUnsatisfied}
-use Rattle.resolver_clause_store.specs.Watches.{FitClauses, IsPair, IsWatching, MovesWatch, SameClauses, list_at, list_number, pair_at, unwatched}
-use Rattle.resolver_clause_store.specs.Watches.{watched_pair}
+use Rattle.resolver_clause_store.specs.Watches.{FitClauses, HasLiteral, IsPair, IsWatching, MovesWatch, SameClauses, WatchesNothing, list_at, pair_at}
 use Rattle.resolver_clause_store.specs.WatchesView.{lists_of, pairs_of}
 use Rattle.resolvo.specs.declared.propagator.Late.{Late}
 use Rattle.resolvo.specs.declared.propagator.Propagator.{Propagator}
@@ -143,7 +142,7 @@ covers-noted table trail pairs old new pending head more covers = record {
 pub passes : (table : List (List Literal)) (trail : Trail) (old new : Propagator) (falsified : FalseLiteral) (place number : ℕ) →
     IsVisiting table trail old falsified place → StandsAt (watchers_of old falsified.literal) place number → number < attached_of old →
     IsSatisfied trail (clause_at table number) → new.watches ≡ old.watches → new.pending ≡ old.pending → new.head ≡ old.head →
-    late_of new ≡ (if falsified.is_top then late_of old else late_of old ++ record { number = number; length = length_of trail } ∷ []) →
+    late_of new ≡ late_with (late_of old) falsified number (length_of trail) →
     GoesOn table trail old new falsified place (place + 1)
 passes table trail old new falsified place number v stands inside satisfied watches pending head late =
     let made : Propagator = record { watches = old.watches; late = new.late; pending = old.pending; head = old.head } in
@@ -273,7 +272,7 @@ sets table trail old watches falsified place v same pairs fit =
       below = v.below;
       propagator = record {
         lists = same.size ∙ was.lists;
-        watched = subst A back (record { attached = w.attached; own = w.own; two = w.two; constant = w.constant; fit = fit });
+        watched = subst A back (record { attached = w.attached; own = w.own; constant = w.constant; fit = fit });
         late = was.late;
         pending = subst N back was.pending;
         inside = subst L back was.inside;
@@ -300,56 +299,49 @@ stands-same old new list place number same stands =
 
 -- the two literals that a clause watches
 
-pub paired-other : (pairs : List WatchedPair) (number : ℕ) (one other : Literal) → IsPair (pair_at pairs number) one other → IsWatching pairs number other
-paired-other pairs number one other pair = ⊎_elim
-    (λ (e : pair_at pairs number ≡ watched_pair one other). inr (ap (λ (p : WatchedPair). p.second) e))
-    (λ (e : pair_at pairs number ≡ watched_pair other one). inl (ap (λ (p : WatchedPair). p.first) e))
+pub paired-other : (pairs : List WatchedPair) (number : ℕ) (one other : Literal) → one ≢ other → IsPair (pair_at pairs number) one other →
+    IsWatching pairs number other
+paired-other pairs number one other differ pair =
+    let Has : WatchedPair → Type 0 = λ p. HasLiteral p other in
+    ⊎_elim
+    (λ (e : pair_at pairs number ≡ record { first = one; second = other }). subst Has (sym e) (record { differ = differ; is = inr refl }))
+    (λ (e : pair_at pairs number ≡ record { first = other; second = one }).
+    subst Has (sym e) (record { differ = λ same. differ (sym same); is = inl refl }))
     pair
 
-pair-either : (pair : WatchedPair) (one other literal : Literal) → IsPair pair one other → (pair.first ≡ Some literal) ⊎ (pair.second ≡ Some literal) →
-    (literal ≡ one) ⊎ (literal ≡ other)
-pair-either pair one other literal is watching = ⊎_elim
-    (λ (e : pair ≡ watched_pair one other). ⊎_elim
-    (λ (f : pair.first ≡ Some literal). inl (same_Some _ _ (sym f ∙ ap (λ (p : WatchedPair). p.first) e)))
-    (λ (s : pair.second ≡ Some literal). inr (same_Some _ _ (sym s ∙ ap (λ (p : WatchedPair). p.second) e)))
-    watching)
-    (λ (e : pair ≡ watched_pair other one). ⊎_elim
-    (λ (f : pair.first ≡ Some literal). inr (same_Some _ _ (sym f ∙ ap (λ (p : WatchedPair). p.first) e)))
-    (λ (s : pair.second ≡ Some literal). inl (same_Some _ _ (sym s ∙ ap (λ (p : WatchedPair). p.second) e)))
-    watching)
+pair-either : (pair : WatchedPair) (one other literal : Literal) → IsPair pair one other → HasLiteral pair literal → (literal ≡ one) ⊎ (literal ≡ other)
+pair-either pair one other literal is has = ⊎_elim
+    (λ (e : pair ≡ record { first = one; second = other }). ⊎_elim
+    (λ (f : pair.first ≡ literal). inl (sym f ∙ ap (λ (p : WatchedPair). p.first) e))
+    (λ (s : pair.second ≡ literal). inr (sym s ∙ ap (λ (p : WatchedPair). p.second) e))
+    has.is)
+    (λ (e : pair ≡ record { first = other; second = one }). ⊎_elim
+    (λ (f : pair.first ≡ literal). inr (sym f ∙ ap (λ (p : WatchedPair). p.first) e))
+    (λ (s : pair.second ≡ literal). inl (sym s ∙ ap (λ (p : WatchedPair). p.second) e))
+    has.is)
     is
 
-pair-two : (pair : WatchedPair) (one other : Literal) → IsPair pair one other → one ≢ other → WatchesTwo pair
-pair-two pair one other is differ = ⊎_elim
-    (λ (e : pair ≡ watched_pair one other). record { first = one; second = other; is = e; differ = differ })
-    (λ (e : pair ≡ watched_pair other one). record { first = other; second = one; is = e; differ = λ same. differ (sym same) })
-    is
+-- a third literal is not watched
+pub paired-only : (pairs : List WatchedPair) (number : ℕ) (one other third : Literal) → IsPaired pairs number one other → third ≢ one → other ≢ third →
+    IsWatching pairs number third → ⊥
+paired-only pairs number one other third pair differ distinct watching = ⊎_elim
+    (λ (e : third ≡ one). differ e)
+    (λ (e : third ≡ other). distinct (sym e))
+    (pair-either (pair_at pairs number) one other third pair.is watching)
 
-unwatched-none : (pair : WatchedPair) (literal : Literal) → pair ≡ unwatched → (pair.first ≡ Some literal) ⊎ (pair.second ≡ Some literal) → ⊥
-unwatched-none pair literal none watching = ⊎_elim
-    (λ (f : pair.first ≡ Some literal). none-some _ (sym (ap (λ (p : WatchedPair). p.first) none) ∙ f))
-    (λ (s : pair.second ≡ Some literal). none-some _ (sym (ap (λ (p : WatchedPair). p.second) none) ∙ s))
-    watching
-
-pub paired : (table : List (List Literal)) (lists : List (List Watch)) (pairs : List WatchedPair) (number : ℕ) (literal found : Literal) →
-    AreWatched table lists pairs → number < length pairs → IsWatching pairs number literal →
+pub paired : (pairs : List WatchedPair) (number : ℕ) (literal found : Literal) → IsWatching pairs number literal →
     ((other : Literal) → literal ≢ other → IsPair (pair_at pairs number) literal other → found ≡ other) → IsPaired pairs number literal found
-paired table lists pairs number literal found w inside watching only =
+paired pairs number literal found watching only =
     let pair = pair_at pairs number in
     let P : Literal → Type 0 = λ l. IsPaired pairs number literal l in
     let make : (other : Literal) → literal ≢ other → IsPair pair literal other → IsPaired pairs number literal found =
     λ other differ is. subst P (sym (only other differ is)) (record { is = is; differ = differ }) in
     ⊎_elim
-    (λ (none : pair ≡ unwatched). absurd (unwatched-none pair literal none watching))
-    (λ (two : WatchesTwo pair). ⊎_elim
-    (λ (f : pair.first ≡ Some literal).
-    let e : two.first ≡ literal = same_Some _ _ (sym (ap (λ (p : WatchedPair). p.first) two.is) ∙ f) in
-    make two.second (λ same. two.differ (e ∙ same)) (inl (two.is ∙ ap (λ (l : Literal). watched_pair l two.second) e)))
-    (λ (s : pair.second ≡ Some literal).
-    let e : two.second ≡ literal = same_Some _ _ (sym (ap (λ (p : WatchedPair). p.second) two.is) ∙ s) in
-    make two.first (λ same. two.differ (sym (e ∙ same))) (inr (two.is ∙ ap (λ (l : Literal). watched_pair two.first l) e)))
-    watching)
-    (w.two number inside)
+    (λ (f : pair.first ≡ literal).
+    make pair.second (λ same. watching.differ (f ∙ same)) (inl (λ i. record { first = f i; second = pair.second })))
+    (λ (s : pair.second ≡ literal).
+    make pair.first (λ same. watching.differ (sym (s ∙ same))) (inr (λ i. record { first = pair.first; second = s i })))
+    watching.is
 
 -- a watch that has moved
 pub moves : (table : List (List Literal)) (trail : Trail) (old : Propagator) (watches : Watches) (falsified : FalseLiteral) (place number : ℕ)
@@ -364,7 +356,7 @@ moves table trail old watches falsified place number other to v m fit p r within
     let after = pairs_of watches in
     let here : IsPair (pair_at after number) to other = m.here other p.differ p.is in
     let of_old : (n : ℕ) (literal : Literal) → n ≢ number → IsWatching after n literal → IsWatching before n literal = λ n literal ne watching.
-    let W : WatchedPair → Type 0 = λ (pair : WatchedPair). (pair.first ≡ Some literal) ⊎ (pair.second ≡ Some literal) in
+    let W : WatchedPair → Type 0 = λ (pair : WatchedPair). HasLiteral pair literal in
     subst W (m.others n ne) watching
     in
     let of_new : (n : ℕ) (literal : Literal) → n ≡ number → IsWatching after n literal → (literal ≡ to) ⊎ (literal ≡ other) = λ n literal e watching.
@@ -381,20 +373,14 @@ moves table trail old watches falsified place number other to v m fit p r within
                 (λ (e : n ≡ number). subst (λ k. Contains (clause_at table k) literal) (sym e) (⊎_elim
                 (λ (t : literal ≡ to). subst (λ (l : Literal). Contains (clause_at table number) l) (sym t) r.inside)
                 (λ (o : literal ≡ other). subst (λ (l : Literal). Contains (clause_at table number) l) (sym o)
-                (w.own number other (paired-other before number falsified.literal other p.is)))
+                (w.own number other (paired-other before number falsified.literal other p.differ p.is)))
                 (of_new n literal e watching)))
                 (λ (ne : n ≢ number). w.own n literal (of_old n literal ne watching))
                 (cases_eq n number);
-            two = λ n inside. ⊎_elim
-                (λ (e : n ≡ number). inr (subst (λ k. WatchesTwo (pair_at after k)) (sym e)
-                (pair-two (pair_at after number) to other here (λ same. r.differ (sym same)))))
-                (λ (ne : n ≢ number). subst (λ (pair : WatchedPair). (pair ≡ unwatched) ⊎ WatchesTwo pair) (sym (m.others n ne))
-                (w.two n (omega (arith, inside, m.attached))))
-                (cases_eq n number);
             constant = λ n inside none. ⊎_elim
-                (λ (e : n ≡ number). absurd (unwatched-none (pair_at after number) other (subst (λ k. pair_at after k ≡ unwatched) e none)
-                (paired-other after number to other here)))
-                (λ (ne : n ≢ number). w.constant n (omega (arith, inside, m.attached)) (sym (m.others n ne) ∙ none))
+                (λ (e : n ≡ number). absurd ((paired-other after number to other (λ same. r.differ (sym same)) here).differ
+                (subst (λ k. WatchesNothing (pair_at after k)) e none)))
+                (λ (ne : n ≢ number). w.constant n (omega (arith, inside, m.attached)) (subst (λ (p : WatchedPair). WatchesNothing p) (m.others n ne) none))
                 (cases_eq n number);
             fit = fit;
           };
@@ -409,16 +395,16 @@ moves table trail old watches falsified place number other to v m fit p r within
                 (ap (λ (l : Literal). literal_value trail l) (sym t) ∙ value-of trail literal fails.slot false fails.is fails.false_there)))
                 (λ (o : literal ≡ other).
                 let watched_before : IsWatching before number literal =
-                subst (λ (l : Literal). IsWatching before number l) (sym o) (paired-other before number falsified.literal other p.is) in
+                subst (λ (l : Literal). IsWatching before number l) (sym o) (paired-other before number falsified.literal other p.differ p.is) in
                 subst (λ k. IsExcused table trail (late_of old) (pending_of old) fails.slot.level k) (sym e)
                 (was.covers.watched number literal watched_before fails))
                 (of_new n literal e watching))
                 (λ (ne : n ≢ number). was.covers.watched n literal (of_old n literal ne watching) fails)
                 (cases_eq n number);
             constant = λ n inside none. ⊎_elim
-                (λ (e : n ≡ number). absurd (unwatched-none (pair_at after number) other (subst (λ k. pair_at after k ≡ unwatched) e none)
-                (paired-other after number to other here)))
-                (λ (ne : n ≢ number). was.covers.constant n (omega (arith, inside, m.attached)) (sym (m.others n ne) ∙ none))
+                (λ (e : n ≡ number). absurd ((paired-other after number to other (λ same. r.differ (sym same)) here).differ
+                (subst (λ k. WatchesNothing (pair_at after k)) e none)))
+                (λ (ne : n ≢ number). was.covers.constant n (omega (arith, inside, m.attached)) (subst (λ (p : WatchedPair). WatchesNothing p) (m.others n ne) none))
                 (cases_eq n number);
           };
         };
@@ -515,7 +501,7 @@ visited table trail it falsified count v all stands =
 -- the other watched literal is in the clause
 pub own-other : (table : List (List Literal)) (trail : Trail) (it : Propagator) (number : ℕ) (literal other : Literal) → IsPropagator table trail it →
     IsPaired (pairs_of it.watches) number literal other → Contains (clause_at table number) other
-own-other table trail it number literal other is p = is.watched.own number other (paired-other (pairs_of it.watches) number literal other p.is)
+own-other table trail it number literal other is p = is.watched.own number other (paired-other (pairs_of it.watches) number literal other p.differ p.is)
 
 pub makes-true : (table : List (List Literal)) (trail : Trail) (number : ℕ) (literal : Literal) → Contains (clause_at table number) literal →
     literal_value trail literal ≡ Some true → IsSatisfied trail (clause_at table number)

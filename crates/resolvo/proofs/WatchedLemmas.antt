@@ -1,20 +1,20 @@
 -- A clause that watches two literals of its own is in the lists of both.
-use Rattle.std.proofs.Common.{◌≡◌, ℕ, ◌<◌, ◌≤◌, List, [], ◌∷◌, ◌++◌, length, Option, Some, None, Result, Ok, Err, OnErr, OnOk, arith, inl, inr, refl, sym, ap}
+use Rattle.std.proofs.Common.{◌≡◌, ◌≢◌, ℕ, ◌<◌, ◌≤◌, List, [], ◌∷◌, ◌++◌, length, Option, Some, None, Result, Ok, Err, OnErr, OnOk, arith, inl, inr, refl, sym, ap}
 use Rattle.std.proofs.Common.{◌∙◌, subst, ⊎_elim, length-append}
-use Rattle.std.specs.Option.{MatchOption}
 use Rattle.std.proofs.lemmas.Bool.{cases_lt}
 use Rattle.std.proofs.lemmas.List.{get_or_push}
-use Rattle.resolver_clause_store.specs.declared.Literal.{Literal}
+use Rattle.resolver_clause_store.specs.Literals.{Literal}
 use Rattle.resolver_clause_store.specs.declared.Trail.{Trail}
 use Rattle.resolver_clause_store.specs.declared.WatchedPair.{WatchedPair}
 use Rattle.resolver_clause_store.specs.declared.Watches.{Watches}
 use Rattle.resolver_clause_store.specs.Formula.{clause_at}
-use Rattle.resolver_clause_store.specs.Watches.{pair_at, pair_count, pair_from, stands_in, unwatched}
+use Rattle.resolver_clause_store.specs.Watches.{pair_at, unwatched}
 use Rattle.resolver_clause_store.specs.WatchesView.{pairs_of}
 use Rattle.resolver_clause_store.proofs.FormulaLemmas.{clause_at-last, clause_at-push}
+use Rattle.resolver_clause_store.proofs.WatchListLemmas.{cases_literal, pair-two}
 use Rattle.resolvo.specs.declared.propagator.Propagator.{Propagator}
-use Rattle.resolvo.specs.Attaching.{AreApart}
-use Rattle.resolvo.specs.Propagators.{IsConstant, IsPropagator, WatchesTwo, attached_of}
+use Rattle.resolvo.specs.Attaching.{IsPairOf}
+use Rattle.resolvo.specs.Propagators.{IsPropagator, attached_of}
 use Rattle.resolvo.specs.WatchedClauses.{AreInLists, AreOwned, OwnsPair}
 
 -- by the invariant of propagation, each clause watches literals of its own
@@ -24,18 +24,13 @@ owned-of table trail it is = λ number inside one other apart.
     let pair = pair_at (pairs_of it.watches) number in
     let attached : number < attached_of it = omega (arith, inside, w.attached) in
     ⊎_elim
-    (λ (none : pair ≡ unwatched). absurd (apart.differ (w.constant number attached none one other apart.has_first apart.has_second)))
-    (λ (two : WatchesTwo pair). record {
-      first = two.first;
-      second = two.second;
-      is = two.is;
-      apart = record {
-        has_first = w.own number two.first (inl (ap (λ (p : WatchedPair). p.first) two.is));
-        has_second = w.own number two.second (inr (ap (λ (p : WatchedPair). p.second) two.is));
-        differ = two.differ;
-      };
+    (λ (none : pair.first ≡ pair.second). absurd (apart.differ (w.constant number attached none one other apart.has_first apart.has_second)))
+    (λ (differ : pair.first ≢ pair.second). record {
+      has_first = w.own number pair.first (record { differ = differ; is = inl refl });
+      has_second = w.own number pair.second (record { differ = differ; is = inr refl });
+      differ = differ;
     })
-    (w.two number attached)
+    (cases_literal pair.first pair.second)
 
 pub owned-same : (table : List (List Literal)) (old new : List WatchedPair) → new ≡ old → AreOwned table old → AreOwned table new
 owned-same table old new same owned = subst (λ (pairs : List WatchedPair). AreOwned table pairs) (sym same) owned
@@ -68,27 +63,31 @@ owned-added table clause old new size kept own owned = λ number inside. ⊎_eli
     subst (λ (c : List Literal). OwnsPair c (pair_at new number)) (sym last) here)
     (cases_lt number (length table))
 
-owns-chosen : (clause : List Literal) (pair : Option (Literal × Literal)) → MatchOption pair (IsConstant clause) (λ two. AreApart clause two.0 two.1) →
-    OwnsPair clause (pair_from pair)
-owns-chosen clause None constant one other apart = absurd (apart.differ (constant one other apart.has_first apart.has_second))
-owns-chosen clause (Some (first, second)) chosen one other apart = record { first = first; second = second; is = refl; apart = chosen }
+owns-chosen : (clause : List Literal) (pair : WatchedPair) → IsPairOf clause pair → OwnsPair clause pair
+owns-chosen clause pair is one other apart = ⊎_elim
+    (λ (none : pair.first ≡ pair.second). absurd (apart.differ (is.constant none one other apart.has_first apart.has_second)))
+    (λ (differ : pair.first ≢ pair.second). is.own differ)
+    (cases_literal pair.first pair.second)
 
 -- the watched pair of a clause that was attached
-pub owns-push : (clause : List Literal) (old new : List WatchedPair) (pair : Option (Literal × Literal)) → new ≡ old ++ pair_from pair ∷ [] →
-    MatchOption pair (IsConstant clause) (λ two. AreApart clause two.0 two.1) → OwnsPair clause (pair_at new (length old))
+pub owns-push : (clause : List Literal) (old new : List WatchedPair) (pair : WatchedPair) → new ≡ old ++ pair ∷ [] → IsPairOf clause pair →
+    OwnsPair clause (pair_at new (length old))
 owns-push clause old new pair is chosen =
-    let last : pair_at new (length old) ≡ pair_from pair = ap (λ (ps : List WatchedPair). pair_at ps (length old)) is ∙
-    get_or_push old (pair_from pair) unwatched (length old) refl in
+    let last : pair_at new (length old) ≡ pair = ap (λ (ps : List WatchedPair). pair_at ps (length old)) is ∙
+    get_or_push old pair unwatched (length old) refl in
     subst (λ (p : WatchedPair). OwnsPair clause p) (sym last) (owns-chosen clause pair chosen)
 
 -- a clause that watches two literals is in their lists
 pub in_lists : (table : List (List Literal)) (watches : Watches) → AreOwned table (pairs_of watches) → AreInLists table watches
-unfolding pair_count stands_in
 in_lists table watches owned = λ number inside one other apart.
-    let pair = owned number inside one other apart in
+    let pair = pair_at (pairs_of watches) number in
+    let own = owned number inside one other apart in
     record {
-      pair = pair;
-      once = λ list. watches.watched list number ∙ ap (λ (p : WatchedPair). pair_count p list) pair.is;
+      first = pair.first;
+      second = pair.second;
+      is = refl;
+      apart = own;
+      once = λ list. watches.watched list number ∙ pair-two pair list own.differ;
     }
 
 pub in_lists-same : (table : List (List Literal)) (trail : Trail) (it : Propagator) (watches : Watches) → IsPropagator table trail it →

@@ -1,16 +1,18 @@
 -- Attaching clauses and cutting the trail: the effect on the state of propagation.
-use Rattle.std.specs.Prelude.{◌≡◌, ◌≢◌, ℕ, ◌<◌, ◌≤◌, ◌++◌, ◌∷◌, false, Option, Some, None, List, [], length, All, Contains}
+use Rattle.std.specs.Prelude.{◌≡◌, ◌≢◌, ℕ, ◌+◌, ◌<◌, ◌≤◌, ◌++◌, ◌∷◌, false, Option, Some, None, List, [], length, All, Contains}
 use Rattle.std.specs.Prelude.{slice_get, slice_index_or}
 use Rattle.std.specs.Bool.{beq}
-use Rattle.resolver_clause_store.specs.declared.Literal.{Literal}
+use Rattle.resolver_clause_store.specs.Literals.{Literal}
 use Rattle.resolver_clause_store.specs.declared.Slot.{Slot}
 use Rattle.resolver_clause_store.specs.declared.Trail.{Trail}
+use Rattle.resolver_clause_store.specs.Formula.{clause_at}
 use Rattle.resolver_clause_store.specs.TrailView.{IsTop, KeepsPlaces, length_of, open_count, slot_of, variable_count}
 use Rattle.resolvo.specs.declared.propagator.Late.{Late}
+use Rattle.resolvo.specs.declared.propagator.Propagator.{Propagator}
 use Rattle.resolver_clause_store.specs.declared.WatchedPair.{WatchedPair}
 use Rattle.resolvo.specs.Propagation.{Extends, IsJustified}
-use Rattle.resolver_clause_store.specs.Watches.{watched_pair}
-use Rattle.resolvo.specs.Propagators.{IsNoted}
+use Rattle.resolver_clause_store.specs.Watches.{WatchesNothing}
+use Rattle.resolvo.specs.Propagators.{IsConstant, IsNoted, Follows, IsPropagator, pending_of}
 
 -- the new trail consists of first entries of the old one, and has with each entry all entries of its level and of lower
 -- levels
@@ -37,13 +39,11 @@ pub record Recalls (old new : List Late) (pending more : List ℕ) (count : ℕ)
 abbrev pub IsHigh : Trail → Literal → Type 0
 IsHigh trail literal = (slot : Slot) → slot_of trail literal.variable ≡ Some slot → beq slot.value literal.positive ≡ false → IsTop trail slot.level
 
--- two literals are watched, each of this kind
+-- the pair has two different literals, each of this kind
 pub record IsHighPair (trail : Trail) (pair : WatchedPair) : Type 0 where
-  pub first : Literal
-  pub second : Literal
-  pub are : pair ≡ watched_pair first second
-  pub first_high : IsHigh trail first
-  pub second_high : IsHigh trail second
+  pub differ : pair.first ≢ pair.second
+  pub first : IsHigh trail pair.first
+  pub second : IsHigh trail pair.second
 
 -- the literal does not become false before this place
 abbrev pub IsNotBefore : Trail → ℕ → Literal → Type 0
@@ -59,6 +59,11 @@ pub record AreApart (clause : List Literal) (first second : Literal) : Type 0 wh
   pub has_first : Contains clause first
   pub has_second : Contains clause second
   pub differ : first ≢ second
+
+-- the pair has two different literals of the clause, or none if the clause does not have two
+pub record IsPairOf (clause : List Literal) (pair : WatchedPair) : Type 0 where
+  pub own : pair.first ≢ pair.second → AreApart clause pair.first pair.second
+  pub constant : WatchesNothing pair → IsConstant clause
 
 -- a literal of the clause that differs from the one at `other`, if that is given
 abbrev pub IsOther : List Literal → Option ℕ → ℕ → Type 0
@@ -80,3 +85,15 @@ pub record Forces (table : List (List Literal)) (old new : Trail) : Type 0 where
   pub extends : Extends old new
   pub size : variable_count new ≡ variable_count old
   pub open_less : open_count new ≤ open_count old
+
+-- the clause is attached after those of the table
+abbrev pub Attaches : Trail → List Literal → Propagator → Propagator → Type 0
+Attaches trail clause old new = (table : List (List Literal)) → IsPropagator table trail old → IsPropagator (table ++ clause ∷ []) trail new
+
+-- the clause with this number, of which this holds, is no longer pending
+abbrev pub Pops : (Trail → List Literal → Type 0) → Trail → ℕ → Propagator → Propagator → Type 0
+Pops Is trail number old new = (table : List (List Literal)) → Is trail (clause_at table number) → Follows table trail trail old new
+
+-- one clause is no longer pending
+abbrev pub PopsOne : Propagator → Propagator → Type 0
+PopsOne old new = length (pending_of new) + 1 ≡ length (pending_of old)

@@ -1,6 +1,6 @@
 -- A search over clauses, and its results.
-use Rattle.std.specs.Prelude.{◌≡◌, ℕ, ◌+◌, ◌-◌, ◌<◌, ◌≤◌, Some, List, length, map, slice_index, All}
-use Rattle.resolver_clause_store.specs.declared.Literal.{Literal}
+use Rattle.std.specs.Prelude.{◌≡◌, ℕ, ◌+◌, ◌-◌, ◌<◌, ◌≤◌, Some, List, length, map, slice_index, All, ◌++◌, ◌∷◌, []}
+use Rattle.resolver_clause_store.specs.Literals.{Literal}
 use Rattle.resolver_clause_store.specs.declared.RequirementClause.{RequirementClause}
 use Rattle.resolver_clause_store.specs.declared.StoredRequirement.{StoredRequirement}
 use Rattle.resolver_clause_store.specs.declared.Reason.TheVariants.{Assumed, Forced}
@@ -120,6 +120,27 @@ pub record IsRootTurn (it : ClauseSearch) : Type 0 where
 abbrev pub KeepsLoaded : ClauseSearch → ClauseSearch → Type 0
 KeepsLoaded old new = (given : List (List Literal)) (numbers : List ℕ) → IsLoaded given numbers old → IsLoaded given numbers new
 
+-- this clause is loaded after those that were
+abbrev pub LoadsClause : ClauseSearch → ClauseSearch → List Literal → Type 0
+LoadsClause old new clause = (given : List (List Literal)) (numbers : List ℕ) → IsLoaded given numbers old → IsLoaded (given ++ clause ∷ []) numbers new
+
+-- these clauses are loaded, of which the first ones were
+abbrev pub LoadsClauses : ClauseSearch → ClauseSearch → List (List Literal) → Type 0
+LoadsClauses old new all = (given : List (List Literal)) (numbers : List ℕ) (more : List (List Literal)) → IsLoaded given numbers old → all ≡ given ++ more →
+    IsLoaded all numbers new
+
+-- the same for numbers of requirement clauses
+abbrev pub LoadsRequirement : ClauseSearch → ClauseSearch → ℕ → Type 0
+LoadsRequirement old new number = (given : List (List Literal)) (numbers : List ℕ) → IsLoaded given numbers old → IsLoaded given (numbers ++ number ∷ []) new
+
+abbrev pub LoadsRequirements : ClauseSearch → ClauseSearch → List ℕ → Type 0
+LoadsRequirements old new all = (given : List (List Literal)) (numbers more : List ℕ) → IsLoaded given numbers old → all ≡ numbers ++ more → IsLoaded given all new
+
+-- the same for both
+abbrev pub LoadsAll : ClauseSearch → ClauseSearch → List (List Literal) → List ℕ → Type 0
+LoadsAll old new clauses all = (given : List (List Literal)) (numbers : List ℕ) → IsLoaded given numbers old → (more : List (List Literal)) →
+    clauses ≡ given ++ more → (more_numbers : List ℕ) → all ≡ numbers ++ more_numbers → IsLoaded clauses all new
+
 -- the search has the same given clauses, requirements and variables
 pub record IsSameProblem (old new : ClauseSearch) : Type 0 where
   pub loaded : KeepsLoaded old new
@@ -159,10 +180,14 @@ pub record IsRefused (given : List (List Literal)) (trail : Trail) (base : ℕ) 
 
 -- One of three results: values that leave nothing to force and nothing to decide, for any requirement clauses with
 -- these numbers; given clauses that no values make true together; or a clause that is false at the base.
-abbrev pub OutcomeIs : List (List Literal) → List ℕ → Trail → ℕ → Outcome → Type 0
-OutcomeIs given numbers trail base Finished = (requirements : List RequirementClause) → numbers_of requirements ≡ numbers → IsFinished given requirements trail
-OutcomeIs given numbers trail base (Contradiction core) = IsCore given core.items
-OutcomeIs given numbers trail base Refused = IsRefused given trail base
+abbrev pub OutcomeIs : List (List Literal) → List ℕ → ClauseSearch → Outcome → Type 0
+OutcomeIs given numbers it Finished = (requirements : List RequirementClause) → numbers_of requirements ≡ numbers → IsFinished given requirements (trail_of it)
+OutcomeIs given numbers it (Contradiction core) = IsCore given core.items
+OutcomeIs given numbers it Refused = IsRefused given (trail_of it) (base_of it)
+
+-- the same, for all that was loaded
+abbrev pub HasOutcome : ClauseSearch → ClauseSearch → Outcome → Type 0
+HasOutcome old new outcome = (given : List (List Literal)) (numbers : List ℕ) → IsLoaded given numbers old → OutcomeIs given numbers new outcome
 
 -- the last thing that the search did is a decision
 abbrev pub HasDecided : ClauseSearch → Type 0

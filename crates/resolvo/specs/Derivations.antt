@@ -1,7 +1,7 @@
 -- The origins of clauses, and the clauses that learnt ones follow from.
 use Rattle.std.specs.Prelude.{◌≡◌, ◌≢◌, ℕ, ◌<◌, ◌≤◌, Bool, true, false, Option, Some, None, List, [], length, All, slice_get, slice_set, Contains}
 use Rattle.std.specs.Option.{option_map_or}
-use Rattle.resolver_clause_store.specs.declared.Literal.{Literal}
+use Rattle.resolver_clause_store.specs.Literals.{Literal}
 use Rattle.resolver_clause_store.specs.Formula.{clause_at, clause_true, FollowsFrom}
 use Rattle.resolvo.specs.Sources.{Source}
 use Rattle.resolvo.specs.Sources.{given_as, learnt_from}

@@ -1,17 +1,19 @@
 -- The clauses of marked rules as a search takes them, the marks of a core, and the verdict.
-use Rattle.std.specs.Prelude.{◌≡◌, ℕ, ◌<◌, Bool, true, false, List, length, All, Contains, ⊤}
+use Rattle.std.specs.Prelude.{◌≡◌, ℕ, ◌<◌, ◌++◌, ◌∷◌, [], Bool, true, false, List, length, All, Contains, ⊤}
 use Rattle.std.specs.List.{slice_index_or}
 use Rattle.resolver_clause_store.specs.Formula.{clause_at}
-use Rattle.resolver_clause_store.specs.declared.Literal.{Literal}
+use Rattle.resolver_clause_store.specs.Literals.{Literal}
 use Rattle.resolver_clause_store.specs.Outcomes.{IsCore, IsFinished}
 use Rattle.resolver_clause_store.specs.Rules.{IsRefuted}
 use Rattle.resolver_clause_store.specs.declared.RequirementClause.{RequirementClause}
 use Rattle.resolver_clause_store.specs.declared.Rule.{Rule}
 use Rattle.resolver_clause_store.specs.declared.Trail.{Trail}
-use Rattle.resolvo.specs.ClauseSearches.{numbers_of}
+use Rattle.resolvo.specs.ClauseSearches.{IsLoaded, numbers_of, trail_of}
 use Rattle.resolvo.specs.Minimal.{IsRefutedPart, marked}
+use Rattle.resolvo.specs.declared.clause_search.ClauseSearch.{ClauseSearch}
 use Rattle.resolvo.specs.declared.clause_search.Outcome.{Outcome}
 use Rattle.resolvo.specs.declared.clause_search.Outcome.TheVariants.{Finished, Contradiction, Refused}
+use Rattle.resolvo.specs.declared.minimal.decision.MarkedClauses.{MarkedClauses}
 use Rattle.resolvo.specs.declared.minimal.decision.Verdict.{Verdict}
 use Rattle.resolvo.specs.declared.minimal.decision.Verdict.TheVariants.{Obeyed, Refuted}
 use Rattle.resolvo.specs.declared.minimal.rule_clauses.RuleClause.{RuleClause}
@@ -42,6 +44,14 @@ pub record AreMarkedClauses (marks : List Bool) (from : List RuleClause) (clause
   pub all : All (λ (clause : RuleClause). IsMarked marks clause → IsThere clauses numbers clause) from
   pub inside : All (λ number. number < length clauses) numbers
 
+-- the same for the form that a search takes
+abbrev pub HoldsMarked : List Bool → List RuleClause → MarkedClauses → Type 0
+HoldsMarked marks from marked = AreMarkedClauses marks from marked.clauses marked.places.items (numbers_of marked.requirements.items)
+
+-- the clause is added, if its rule is marked
+abbrev pub AddsMarkedClause : List Bool → MarkedClauses → MarkedClauses → RuleClause → Type 0
+AddsMarkedClause marks old new clause = (from : List RuleClause) → HoldsMarked marks from old → HoldsMarked marks (from ++ clause ∷ []) new
+
 -- just the rules of the clauses with these numbers are marked
 pub record AreMarksOf (places numbers : List ℕ) (count : ℕ) (marks : List Bool) : Type 0 where
   pub size : length marks ≡ count
@@ -53,6 +63,10 @@ abbrev pub EndsWith : List (List Literal) → List ℕ → Trail → Outcome →
 EndsWith given numbers trail Finished = (requirements : List RequirementClause) → numbers_of requirements ≡ numbers → IsFinished given requirements trail
 EndsWith given numbers trail (Contradiction core) = IsCore given core.items
 EndsWith given numbers trail Refused = ⊤
+
+-- the same, for all that was loaded
+abbrev pub HasEnded : ClauseSearch → ClauseSearch → Outcome → Type 0
+HasEnded old new outcome = (given : List (List Literal)) (numbers : List ℕ) → IsLoaded given numbers old → EndsWith given numbers (trail_of new) outcome
 
 -- some set obeys the marked rules, or no set obeys those with the part's marks
 abbrev pub VerdictIs : {N S : Type 0} → List (Rule N S) → List Bool → Verdict → Type 0

@@ -1,5 +1,5 @@
 -- Conflicts from which no rule can be left out.
-use Rattle.std.specs.Prelude.{◌≡◌, ℕ, ◌<◌, ◌⊎◌, ◌++◌, ◌∷◌, [], Bool, true, false, cond, List, length, drop, replicate}
+use Rattle.std.specs.Prelude.{◌≡◌, ℕ, ◌<◌, ◌⊎◌, ◌++◌, ◌∷◌, [], Bool, true, false, cond, List, length, drop, replicate, take}
 use Rattle.std.specs.List.{AllZip, slice_index_or}
 use Rattle.resolver_clause_store.specs.Lists.{IsCut}
 use Rattle.resolver_clause_store.specs.Statements.{StatesTheSame}
@@ -31,6 +31,10 @@ abbrev pub marked : {X : Type 0} → List Bool → List X → List X
 marked [] xs = []
 marked (b ∷ bs) [] = []
 marked (b ∷ bs) (x ∷ xs) = cond b (x ∷ marked bs xs) (marked bs xs)
+
+-- the second list copies, one for one, those of the first rules that are marked
+abbrev pub CopiesFirst : {N S : Type 0} → ℕ → List Bool → List (Rule N S) → List (Rule N S) → Type 0
+CopiesFirst count marks rules copies = AllZip StatesTheSame (marked (take count marks) rules) copies
 
 -- the marks of the other rules when the one after `kept` has its turn: those that were kept, and all those after it
 abbrev pub others_of : List Bool → ℕ → List Bool

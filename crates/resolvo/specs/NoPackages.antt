@@ -1,10 +1,9 @@
 -- A universe without packages, and its laws.
-use Rattle.std.specs.Prelude.{◌≡◌, ◌≢◌, ℕ, ◌≤◌, List, [], ◌∷◌, nat_eq, None, AllPairs, refl, length}
+use Rattle.std.specs.Prelude.{◌≡◌, ◌≢◌, ℕ, ◌≤◌, List, [], ◌∷◌, nat_eq, None, AllPairs, length}
 use Rattle.std.proofs.Common.{arith}
-use Rattle.std.proofs.lemmas.Bool.{eqb-true, eq-eqb}
 use Rattle.std.proofs.lemmas.List.Elements.{All-nil, All-contains}
 use Rattle.std.proofs.lemmas.List.Sorted.{IsPermutation-refl}
-use Rattle.resolver_clause_store.specs.Laws.{IsIdentity, HasLawfulIds, HasLawfulPackages}
+use Rattle.resolver_clause_store.specs.Laws.{HasLawfulIds, HasLawfulPackages}
 use Rattle.resolver_clause_store.specs.Lists.{IsCut, cut_none, cut_left}
 use Rattle.resolver_clause_store.specs.Universe.{Universe, hint_none, unknown}
 use Rattle.resolver_clause_store.specs.declared.Condition.TheVariants.{Requirement}
@@ -28,9 +27,6 @@ empty_universe = record {
   others_of = λ xs v. [];
   sorted_of = λ xs. xs;
 }
-
-pub numbers_are_values : IsIdentity nat_eq
-numbers_are_values = record { alone = eqb-true; itself = λ a. eq-eqb a a refl }
 
 pub empty_ids_lawful : HasLawfulIds empty_universe
 empty_ids_lawful = record { left_lower = λ i a b op e. absurd cc; right_lower = λ i a b op e. absurd cc }

@@ -1,13 +1,13 @@
 -- The state of propagation by watched literals.
 use Rattle.std.specs.Prelude.{◌≡◌, ◌≢◌, ◌⊎◌, ℕ, ◌*◌, ◌<◌, ◌≤◌, true, Some, List, [], length, All, Any, Contains, slice_get}
 use Rattle.std.specs.Bool.{beq}
-use Rattle.resolver_clause_store.specs.declared.Literal.{Literal}
+use Rattle.resolver_clause_store.specs.Literals.{Literal}
 use Rattle.resolver_clause_store.specs.declared.Slot.{Slot}
 use Rattle.resolver_clause_store.specs.declared.Trail.{Trail}
 use Rattle.resolver_clause_store.specs.Formula.{clause_at}
 use Rattle.resolver_clause_store.specs.Outcomes.{IsFalseBefore}
 use Rattle.resolver_clause_store.specs.TrailView.{slot_of, length_of, variable_count}
-use Rattle.resolver_clause_store.specs.Watches.{FitClauses, IsWatching, pair_at, unwatched, watched_pair}
+use Rattle.resolver_clause_store.specs.Watches.{FitClauses, IsWatching, WatchesNothing, pair_at}
 use Rattle.resolver_clause_store.specs.WatchesView.{lists_of, pairs_of}
 use Rattle.resolver_clause_store.specs.declared.Watch.{Watch}
 use Rattle.resolver_clause_store.specs.declared.WatchedPair.{WatchedPair}
@@ -48,19 +48,11 @@ pub record IsTrueBefore (trail : Trail) (place : ℕ) (literal : Literal) : Type
 abbrev pub IsConstant : List Literal → Type 0
 IsConstant clause = (one other : Literal) → Contains clause one → Contains clause other → one ≡ other
 
--- two different literals are watched
-pub record WatchesTwo (pair : WatchedPair) : Type 0 where
-  pub first : Literal
-  pub second : Literal
-  pub is : pair ≡ watched_pair first second
-  pub differ : first ≢ second
-
 -- All clauses of the table are attached. A clause watches two different literals of its own, or none if it does not have two.
 pub record AreWatched (table : List (List Literal)) (lists : List (List Watch)) (pairs : List WatchedPair) : Type 0 where
   pub attached : length pairs ≡ length table
   pub own : (number : ℕ) (literal : Literal) → IsWatching pairs number literal → Contains (clause_at table number) literal
-  pub two : (number : ℕ) → number < length pairs → (pair_at pairs number ≡ unwatched) ⊎ WatchesTwo (pair_at pairs number)
-  pub constant : (number : ℕ) → number < length pairs → pair_at pairs number ≡ unwatched → IsConstant (clause_at table number)
+  pub constant : (number : ℕ) → number < length pairs → WatchesNothing (pair_at pairs number) → IsConstant (clause_at table number)
   pub fit : FitClauses table lists
 
 -- each of these clauses has a literal that is true before the noted place; the noted places never fall
@@ -82,7 +74,7 @@ IsExcused table trail late pending level number =
 pub record Covers (table : List (List Literal)) (trail : Trail) (pairs : List WatchedPair) (late : List Late) (pending : List ℕ) (head : ℕ) : Type 0 where
   pub watched : (number : ℕ) (literal : Literal) → IsWatching pairs number literal → (fails : IsFalseBefore trail head literal) →
       IsExcused table trail late pending fails.slot.level number
-  pub constant : (number : ℕ) → number < length pairs → pair_at pairs number ≡ unwatched → IsNoted late pending number
+  pub constant : (number : ℕ) → number < length pairs → WatchesNothing (pair_at pairs number) → IsNoted late pending number
 
 -- the invariant of propagation
 pub record IsPropagator (table : List (List Literal)) (trail : Trail) (it : Propagator) : Type 0 where
@@ -98,3 +90,7 @@ pub record IsPropagator (table : List (List Literal)) (trail : Trail) (it : Prop
 pub record IsAttached (table : List (List Literal)) (it : Propagator) : Type 0 where
   pub all : attached_of it ≡ length table
   pub none : pending_of it ≡ []
+
+-- the propagator follows the trail
+abbrev pub Follows : List (List Literal) → Trail → Trail → Propagator → Propagator → Type 0
+Follows table before after old new = IsPropagator table before old → IsPropagator table after new

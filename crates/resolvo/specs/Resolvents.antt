@@ -2,13 +2,14 @@
 use Rattle.std.specs.Prelude.{◌≡◌, ◌≢◌, ℕ, ◌-◌, ◌<◌, ◌≤◌, ◌⊎◌, Bool, true, false, not, Contains, Some, List, [], length, All, Any, slice_index_or, slice_set}
 use Rattle.std.specs.Bool.{beq}
 use Rattle.std.specs.Option.{option_map_or}
-use Rattle.resolver_clause_store.specs.declared.Literal.{Literal}
+use Rattle.resolver_clause_store.specs.Literals.{Literal}
 use Rattle.resolver_clause_store.specs.declared.Slot.{Slot}
 use Rattle.resolver_clause_store.specs.declared.Reason.TheVariants.{Forced}
 use Rattle.resolver_clause_store.specs.declared.Trail.{Trail}
-use Rattle.resolver_clause_store.specs.Formula.{MakesTrue, FollowsFrom, clause_at}
+use Rattle.resolver_clause_store.specs.Formula.{AreBelow, MakesTrue, FollowsFrom, clause_at}
 use Rattle.resolver_clause_store.specs.Outcomes.{IsFalsified}
-use Rattle.resolver_clause_store.specs.TrailView.{length_of, literal_value, place_of, slot_of, variable_count}
+use Rattle.resolver_clause_store.specs.TrailView.{length_of, literal_value, place_of, slot_of, variable_at, variable_count}
+use Rattle.resolvo.specs.Propagation.{IsJustified}
 use Rattle.resolvo.specs.declared.learn.resolve.Resolvent.{Resolvent}
 use Rattle.resolvo.specs.declared.learn.clause.Learnt.{Learnt}
 use Rattle.resolvo.specs.declared.learn.Analysis.{Analysis}
@@ -58,8 +59,10 @@ pub record AreDrawn (table : List (List Literal)) (trail : Trail) (marks : List 
   pub each : (variable : ℕ) (slot : Slot) → is_marked marks variable ≡ true → slot_of trail variable ≡ Some slot →
       IsDrawn table causes (record { variable = variable; positive = not slot.value })
 
--- the marked variables' values contradict the causes, which are clauses of the table
+-- What is known between two steps of an analysis: the marked variables' values contradict the causes, which are clauses of the table.
 pub record IsResolvent (table : List (List Literal)) (trail : Trail) (resolvent : Resolvent) : Type 0 where
+  pub below : AreBelow (variable_count trail) table
+  pub justified : IsJustified table trail
   pub size : length resolvent.marks.items ≡ variable_count trail
   pub listed : ListsMarks resolvent.marks.items resolvent.marked.items
   pub within : All (λ number. number < length table) resolvent.causes.items
@@ -74,6 +77,10 @@ pub record AreAtMost (trail : Trail) (marks : List Bool) (level lowest : ℕ) : 
 -- the level of a variable, or 0 if it has no value
 abbrev pub level_in : Trail → ℕ → ℕ
 level_in trail variable = option_map_or (λ (slot : Slot). slot.level) (slot_of trail variable) 0
+
+-- if the variable has a value of this level, it is not before this place
+abbrev pub IsNotBefore : Trail → ℕ → ℕ → ℕ → Type 0
+IsNotBefore trail level place variable = (slot : Slot) → slot_of trail variable ≡ Some slot → slot.level ≡ level → place ≤ slot.place
 
 -- the variable has a value of this level at this place
 pub record StandsAt (trail : Trail) (level place variable : ℕ) : Type 0 where
@@ -105,6 +112,13 @@ pub record IsLevelled (trail : Trail) (resolvent : Resolvent) (place : ℕ) : Ty
   pub at_most : AreAtMost trail resolvent.marks.items resolvent.level resolvent.lowest
   pub before : AllBefore trail resolvent.marks.items place
   pub mark : 0 < resolvent.level → HasMark trail resolvent.marks.items resolvent.level resolvent.lowest
+
+-- the first unique implication point: one marked variable is of the highest level; at level 0 none is left
+pub record IsResolved (table : List (List Literal)) (trail : Trail) (it : Resolvent) : Type 0 where
+  pub resolvent : IsResolvent table trail it
+  pub inside : 0 < it.level → it.lowest < length_of trail
+  pub single : 0 < it.level → IsSingle trail it.marks.items it.level (variable_at trail it.lowest)
+  pub none : it.level ≡ 0 → AllBefore trail it.marks.items 0
 
 -- the clause with this number forced the variable
 pub record IsReason (trail : Trail) (variable number : ℕ) : Type 0 where

@@ -1,10 +1,12 @@
 -- Going back to a level of a trail.
-use Rattle.std.specs.Prelude.{◌≡◌, ◌⊎◌, ℕ, ◌+◌, ◌<◌, ◌≤◌, Some, List, All, Any}
-use Rattle.resolver_clause_store.specs.declared.Literal.{Literal}
+use Rattle.std.specs.Prelude.{◌≡◌, ◌⊎◌, ℕ, ◌+◌, ◌<◌, ◌≤◌, Some, List, All, Any, Bool, true}
+use Rattle.resolver_clause_store.specs.Literals.{Literal}
 use Rattle.resolver_clause_store.specs.declared.Slot.{Slot}
 use Rattle.resolver_clause_store.specs.declared.Trail.{Trail}
-use Rattle.resolver_clause_store.specs.TrailView.{IsUndone, slot_of}
+use Rattle.resolver_clause_store.specs.TrailView.{IsCut, IsUndone, length_of, slot_of}
+use Rattle.resolvo.specs.Propagators.{Follows}
 use Rattle.resolvo.specs.Resolvents.{level_in}
+use Rattle.resolvo.specs.declared.propagator.Propagator.{Propagator}
 
 -- the entries before this place are of lower levels than those from it on
 pub record BeginsLevel (trail : Trail) (place : ℕ) : Type 0 where
@@ -22,3 +24,8 @@ pub record TakesBack (old new : Trail) (clause : List Literal) (base : ℕ) : Ty
   pub level : ℕ
   pub below : IsBelowHighest old clause base level
   pub undone : IsUndone old new level
+
+-- the propagator follows the trail to its first entries; if `began`, a level began right after them
+abbrev pub FollowsCut : Bool → Trail → Propagator → Propagator → Type 0
+FollowsCut began trail old new = (table : List (List Literal)) (before : Trail) (count : ℕ) → count ≤ length_of before →
+    (began ≡ true → BeginsLevel before count) → IsCut before trail count → Follows table before trail old new

@@ -1,5 +1,5 @@
 -- Rounds of searching and reading.
-use Rattle.std.specs.Prelude.{◌≡◌, ℕ, ◌+◌, ◌-◌, ◌<◌, ◌≤◌, ◌⊎◌, Bool, Some, true, false, List, [], ◌∷◌, ◌++◌, Contains, None, length, take}
+use Rattle.std.specs.Prelude.{◌≡◌, ℕ, ◌+◌, ◌-◌, ◌<◌, ◌≤◌, ◌⊎◌, Bool, Some, true, false, List, [], ◌∷◌, ◌++◌, Contains, None, length, map, take}
 use Rattle.std.specs.List.{flat_map}
 use Rattle.resolver_clause_store.specs.FirstChoice.{TakesFirstChoices}
 use Rattle.resolver_clause_store.specs.Outcomes.{IsCore}
@@ -9,10 +9,12 @@ use Rattle.resolver_clause_store.specs.Reached.{AllReached}
 use Rattle.resolver_clause_store.specs.SoftRun.{Exempts, FitsNowhere, SoftRun, options, own_packages}
 use Rattle.resolver_clause_store.specs.Valid.{IsValid}
 use Rattle.resolver_clause_store.specs.declared.SoftRequirement.{SoftRequirement}
+use Rattle.resolver_clause_store.specs.declared.SoftRequirement.TheVariants.{Solvable as SoftSolvable}
+use Rattle.resolver_clause_store.specs.declared.VersionSetId.{VersionSetId}
 use Rattle.resolver_clause_store.specs.Variables.{Keeps, origins_in}
 use Rattle.resolver_clause_store.specs.TrailView.{Gains, IsCut, KeepsPlaces, length_of, level_of, slot_of, variable_at, variable_count}
 use Rattle.resolver_clause_store.specs.Universe.{Universe, Demands}
-use Rattle.resolver_clause_store.specs.declared.Literal.{Literal}
+use Rattle.resolver_clause_store.specs.Literals.{Literal}
 use Rattle.resolver_clause_store.specs.declared.ClauseKind.{ClauseKind}
 use Rattle.resolver_clause_store.specs.declared.Origin.{Origin}
 use Rattle.resolver_clause_store.specs.declared.Reason.TheVariants.{Assumed}
@@ -25,7 +27,7 @@ use Rattle.resolver_encoding.specs.SoFar.{IsReading, IsReadSoFar, left_count}
 use Rattle.resolver_encoding.specs.Reach.{AreNear}
 use Rattle.resolver_encoding.specs.ReadState.{AreSeeds}
 use Rattle.resolver_encoding.specs.TrailAtoms.{IsAnswerBy}
-use Rattle.resolver_encoding.specs.Turns.{IsTurnEnd}
+use Rattle.resolver_encoding.specs.Turns.{AsksOnly, IsTurnEnd}
 use Rattle.resolver_encoding.specs.Trails.{AreAssumed, Follows, chosen_in, solvables_before}
 use Rattle.resolver_encoding.specs.declared.chosen.Chosen.{Chosen}
 use Rattle.resolvo.specs.ClauseSearches.{IsConsistent, IsLoaded, IsRefused, IsRootTurn, KeepsTurn, base_of, held_of, clause_count_of, kept_of, learnt_count_of}
@@ -85,7 +87,7 @@ module _ {N S : Type 0} where
   origins_of r = origins_in r.encoding.table.variables
 
   abbrev pub kinds_of : Rounds N S → List (ClauseKind N S)
-  kinds_of r = r.encoding.table.kinds
+  kinds_of r = r.encoding.table.kinds.items
 
   abbrev pub chosen_of : Rounds N S → List S
   chosen_of r = chosen_in r.chosen
@@ -161,6 +163,11 @@ module _ {N S : Type 0} where
     pub bookmarked : kept_of r.search ≡ length_of (trail_of r.search)
     pub chosen : chosen_of r ≡ solvables_before (notes_of r).origins (trail_of r.search) (length_of (trail_of r.search))
 
+  -- the rounds between two turns
+  pub record AreAtRest (u : Universe N S) (r : Rounds N S) : Type 0 where
+    pub rounds : AreRounds u r
+    pub still : IsStill r
+
   -- The taken and the refused solvables are those of the turns so far. Everything registered, read and asked is near the seeds, or one of the
   -- packages.
   pub record IsStanding (u : Universe N S) (root : Demands) (taken refused seeds : List S) (packages : List N) (r : Rounds N S) : Type 0 where
@@ -192,6 +199,23 @@ module _ {N S : Type 0} where
     pub standing : IsStanding u root taken_now refused_now seeds packages new
     pub asked : IsWithin (notes_of old).asked (notes_of new).asked
 
+  -- the turn of a solvable among the seeds, whatever was taken and refused before it
+  abbrev pub TakesTurn : Universe N S → S → Rounds N S → Rounds N S → Bool → Type 0
+  TakesTurn u s old new is_chosen = (root : Demands) (taken refused seeds : List S) (packages : List N) → Contains seeds s →
+      IsStanding u root taken refused seeds packages old → HasTurned u root taken refused seeds packages s old new is_chosen
+
+  -- the same for candidates among the seeds
+  abbrev pub TakesFirst : Universe N S → List S → Rounds N S → Rounds N S → Bool → Type 0
+  TakesFirst u candidates old new is_chosen = (root : Demands) (taken refused seeds : List S) (packages : List N) → IsWithin candidates seeds →
+      IsStanding u root taken refused seeds packages old → HaveTurned u root taken seeds packages candidates old new is_chosen
+
+  -- only the package of a version set was asked
+  pub record HasAsked (u : Universe N S) (version_set : VersionSetId) (old new : Rounds N S) : Type 0 where
+    pub chosen : chosen_of new ≡ chosen_of old
+    pub alone : AsksOnly u (u.version_set_name version_set) (notes_of old) (notes_of new)
+    pub standing : (root : Demands) (taken refused seeds : List S) (packages : List N) → Contains packages (u.version_set_name version_set) →
+        IsStanding u root taken refused seeds packages old → IsStanding u root taken refused seeds packages new
+
   -- the turns of the soft requirements `done` are over
   pub record IsBetween (u : Universe N S) (root : Demands) (done : List (SoftRequirement S)) (r : Rounds N S) : Type 0 where
     pub first : List S
@@ -200,6 +224,14 @@ module _ {N S : Type 0} where
     pub refused : List S
     pub run : SoftRun u root first done taken (chosen_of r) (notes_of r).exempt (notes_of r).asked
     pub standing : IsStanding u root taken refused (flat_map (options u) done) (flat_map (own_packages u) done) r
+
+  -- the turns of these soft requirements are over as well
+  abbrev pub TakesTurns : Universe N S → List (SoftRequirement S) → Rounds N S → Rounds N S → Type 0
+  TakesTurns u more old new = (root : Demands) (done : List (SoftRequirement S)) → IsBetween u root done old → IsBetween u root (done ++ more) new
+
+  -- the turns of all soft requirements are over, which depend on the items that an iterator yields
+  abbrev pub TakesAll : Universe N S → (List S → Type 0) → (List S → List (SoftRequirement S)) → Rounds N S → Rounds N S → Type 0
+  TakesAll u yields all old new = (root : Demands) → IsBetween u root [] old → (items : List S) × yields items × IsBetween u root (all items) new
 
   -- The turn that began with this variable is undone, and the variable is assumed to be false. As many solvables are exempt as before the turn.
   pub record IsRefusing (u : Universe N S) (variable count : ℕ) (old new : Rounds N S) : Type 0 where
@@ -268,6 +300,11 @@ module _ {N S : Type 0} where
   IsDone u root soft r Answer = IsBetween u root soft r
   IsDone u root soft r (Contradiction core) = IsReadSoFar u root (chosen_of r) (notes_of r) × IsCore (notes_of r).table core.items
   IsDone u root soft r Refused = ⊥
+
+  -- the same, if an iterator yields the first soft requirements
+  abbrev pub IsDoneBy : Universe N S → Demands → (List S → Type 0) → List (SoftRequirement S) → Rounds N S → Found → Type 0
+  IsDoneBy u root yields list r found =
+      (items : List S) × (found ≡ Answer → yields items) × IsDone u root (map (λ s. SoftSolvable s) items ++ list) r found
 
   -- the result of all turns, for some problem
   pub record IsSomeDone (u : Universe N S) (r : Rounds N S) (found : Found) : Type 0 where

@@ -8,7 +8,7 @@ use Rattle.resolver_clause_store.specs.Rules.{IsRefuted, Obeys}
 use Rattle.resolver_clause_store.specs.Variables.{AreDistinct}
 use Rattle.resolver_clause_store.specs.declared.By.{By}
 use Rattle.resolver_clause_store.specs.declared.By.TheVariants.{Root, Solvable}
-use Rattle.resolver_clause_store.specs.declared.Literal.{Literal}
+use Rattle.resolver_clause_store.specs.Literals.{Literal}
 use Rattle.resolver_clause_store.specs.declared.Rule.{Rule}
 use Rattle.resolver_clause_store.specs.declared.Rule.TheVariants.{Requires, Constrains, Lock, Excluded, OnePerPackage}
 use Rattle.resolver_encoding.specs.Codes.{bit}
@@ -57,6 +57,11 @@ abbrev pub condition_lines : {N S : Type 0} → ℕ → ℕ → List (Vec S Glob
 condition_lines rule list [] = []
 condition_lines rule list (members ∷ rest) = member_lines rule list members.items ++ condition_lines rule (suc list) rest
 
+-- the clauses of a requirement
+abbrev pub requirement_lines : {N S : Type 0} → ℕ → By S → List S → List (Vec S Global) → List (Line N S)
+requirement_lines rule by candidates when =
+    requirement_line rule (requirer_atoms by ++ (list_atoms rule (length when) ++ candidate_atoms candidates)) ∷ condition_lines rule 0 when
+
 -- for each of the first bits: if the instance is in the set, that bit of the name has the value that it has in the instance's code
 abbrev pub bit_lines : {N S : Type 0} → ℕ → N → S → ℕ → ℕ → List (Line N S)
 bit_lines rule name instance code zero = []
@@ -65,9 +70,7 @@ bit_lines rule name instance code (suc n) = bit_lines rule name instance code n 
 
 -- the clauses of the rule at a place; those of an instance use its code, with `width` bits
 abbrev pub lines_of : {N S : Type 0} → ℕ → ℕ → ℕ → Rule N S → List (Line N S)
-lines_of width place code (Requires by requirement candidates when) =
-    requirement_line place (requirer_atoms by ++ (list_atoms place (length when.items) ++ candidate_atoms candidates.items)) ∷
-    condition_lines place 0 when.items
+lines_of width place code (Requires by requirement candidates when) = requirement_lines place by candidates.items when.items
 lines_of width place code (Constrains by version_set candidate) = plain place (requirer_atoms by ++ atom (Member candidate) false ∷ []) ∷ []
 lines_of width place code (Lock locked forbidden) = plain place (atom (Member forbidden) false ∷ []) ∷ []
 lines_of width place code (Excluded solvable reason) = plain place (atom (Member solvable) false ∷ []) ∷ []
@@ -130,3 +133,8 @@ pub record DecideRules {N S : Type 0} (rules : List (Rule N S)) (variables : ℕ
   pub guarded : All (λ (clause : RuleClause). clause.is_requirement ≡ false → IsGuarded clause.literals.items) clauses
   pub places : All (λ (clause : RuleClause). clause.rule < length rules) clauses
   pub below : All (λ (clause : RuleClause). IsBelow variables clause.literals.items) clauses
+
+-- the clauses of rules decide
+abbrev pub ClausesDecide : Type 0 → Type 0 → Type 0
+ClausesDecide N S = (rules : List (Rule N S)) (propositions : List (Proposition N S)) (clauses : List RuleClause) → AreClausesOf rules propositions clauses →
+    DecideRules rules (length propositions) clauses

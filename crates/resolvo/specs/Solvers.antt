@@ -50,6 +50,13 @@ module _ {D C N S : Type 0} where
   abbrev pub KeepsActivity : Solver D C N S → Solver D C N S → Type 0
   KeepsActivity old new = new.activity ≡ old.activity
 
+  -- the provider, the limits, the parameters and the state of the last search are the same
+  pub record IsSameSolver (old new : Solver D C N S) : Type 0 where
+    pub provider : provider_in new ≡ provider_in old
+    pub limits : KeepsLimits old new
+    pub activity : KeepsActivity old new
+    pub rounds : rounds_in new ≡ rounds_in old
+
   -- In the state of the last search there are as many variables as the limit, no two of them alike, or as many clauses,
   -- or as many learnt clauses.
   abbrev pub IsAtLimit : Solver D C N S → Type 0

@@ -1,6 +1,6 @@
 -- What comes next in a search.
 use Rattle.std.specs.Prelude.{◌+◌, ◌⊎◌, ℕ, All, List, slice_index_or}
-use Rattle.resolver_clause_store.specs.declared.Literal.{Literal}
+use Rattle.resolver_clause_store.specs.Literals.{Literal}
 use Rattle.resolver_clause_store.specs.declared.Choice.{Choice}
 use Rattle.resolver_clause_store.specs.declared.Reason.TheVariants.{Decided}
 use Rattle.resolver_clause_store.specs.declared.StoredRequirement.{StoredRequirement}

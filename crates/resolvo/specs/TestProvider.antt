@@ -1,18 +1,15 @@
 -- The provider of the tests, and its laws. Package n has the solvables 10 n + 1 and 10 n + 4. Version set 10 n + k has 10 n + k, and with k = 0 both.
--- In an endless universe 10 n + 1 requires version set 10 (n + 1).
-use Rattle.std.specs.Prelude.{◌≡◌, ◌≢◌, ℕ, ◌+◌, ◌*◌, ◌/◌, ◌%◌, Bool, true, false, cond, not, nat_eq, nat_lt, List, [], ◌∷◌, ◌++◌, Some, None, All, AllPairs}
+use Rattle.std.specs.Prelude.{◌≡◌, ◌≢◌, ℕ, ◌+◌, ◌*◌, ◌/◌, ◌%◌, Bool, true, false, cond, not, nat_eq, nat_lt, List, [], ◌∷◌, Some, None, All, AllPairs}
 use Rattle.std.specs.Prelude.{IfSome, filter, map, reverse, refl, length, ◌<◌, ◌≤◌}
 use Rattle.std.proofs.Common.{arith}
-use Rattle.std.proofs.lemmas.Bool.{eqb-true, eq-eqb}
 use Rattle.std.proofs.lemmas.List.Elements.{All-nil, All-cons, All-contains}
 use Rattle.std.proofs.lemmas.List.Kept.{AllPairs-cons}
 use Rattle.std.proofs.lemmas.List.Sorted.{IsPermutation-reverse}
 use Rattle.resolver_clause_store.specs.Filtering.{Splits-filter}
 use Rattle.resolver_clause_store.specs.Universe.{Universe, Hint, Package, known, unknown, hint_all, hint_none}
-use Rattle.resolver_clause_store.specs.Laws.{IsIdentity, HasLawfulIds, IsLawfulPackage, HasLawfulPackages}
+use Rattle.resolver_clause_store.specs.Laws.{HasLawfulIds, IsLawfulPackage, HasLawfulPackages}
 use Rattle.resolver_clause_store.specs.declared.ConditionId.{ConditionId}
 use Rattle.resolver_clause_store.specs.declared.ConditionalRequirement.{ConditionalRequirement}
-use Rattle.resolver_clause_store.specs.declared.Requirement.TheVariants.{Single}
 use Rattle.resolver_clause_store.specs.declared.StringId.{StringId}
 use Rattle.resolver_clause_store.specs.declared.VersionSetId.{VersionSetId}
 use Rattle.resolver_clause_store.specs.declared.Condition.{Condition}
@@ -27,19 +24,6 @@ takes v s = cond (nat_eq (v.0 % 10) 0) true (nat_eq (s % 10) (v.0 % 10))
 -- the statements about a solvable
 abbrev pub stated_by : {X : Type 0} → List (ℕ × X) → ℕ → List X
 stated_by statements s = map (λ e. e.1) (filter (λ e. nat_eq e.0 s) statements)
-
--- the requirement of an older solvable on the next package, as far as the ids go
-abbrev pub next_of : ℕ → List ConditionalRequirement
-next_of s = cond (nat_eq (s % 10) 1)
-    (cond (nat_lt (s / 10) 429496728) (record { condition = None; requirement = Single (record { 0 = 10 * (s / 10 + 1) }) } ∷ []) []) []
-
--- the requirements of a solvable
-abbrev pub required_by : Bool → List (ℕ × ConditionalRequirement) → ℕ → List ConditionalRequirement
-required_by endless requirements s = cond endless (stated_by requirements s ++ next_of s) (stated_by requirements s)
-
--- the number of packages
-abbrev pub package_count : Bool → ℕ
-package_count endless = cond endless 429496729 100
 
 -- the hint of a package about the dependencies of its solvables
 abbrev pub hint_by : ℕ → Hint ℕ
@@ -65,8 +49,8 @@ joined_by n = cond (nat_eq (n / 1000 % 10) 4) And Or
 abbrev pub condition_of : ConditionId → Condition
 condition_of c = cond (nat_lt c.0 1000) (Requirement (record { 0 = c.0 })) (Binary (joined_by c.0) (record { 0 = c.0 / 1000 }) (record { 0 = c.0 % 1000 }))
 
-abbrev pub test_universe : Bool → List (ℕ × ConditionalRequirement) → List (ℕ × VersionSetId) → Universe ℕ ℕ
-test_universe endless requirements constraints = record {
+abbrev pub test_universe : List (ℕ × ConditionalRequirement) → List (ℕ × VersionSetId) → Universe ℕ ℕ
+test_universe requirements constraints = record {
   name = λ s. s / 10;
   version_set_name = λ v. v.0 / 10;
   union_members = λ m. [];
@@ -77,16 +61,13 @@ test_universe endless requirements constraints = record {
   version_set_text = λ v. [];
   string_text = λ r. [];
   merged_text = λ xs. [];
-  package_named = λ n. cond (nat_lt n (package_count endless)) (known_package n) unknown_package;
+  package_named = λ n. cond (nat_lt n 100) (known_package n) unknown_package;
   needs = λ s. cond (nat_eq s 94) (unknown (record { 0 = 6 }))
-      (known (record { requirements = required_by endless requirements s; constraints = stated_by constraints s }));
+      (known (record { requirements = stated_by requirements s; constraints = stated_by constraints s }));
   matching_of = λ xs v. filter (takes v) xs;
   others_of = λ xs v. filter (λ s. not (takes v s)) xs;
   sorted_of = reverse;
 }
-
-pub numbers_are_values : IsIdentity nat_eq
-numbers_are_values = record { alone = eqb-true; itself = λ a. eq-eqb a a refl }
 
 -- the parts of a condition that is decided by this test
 left_part : (n : ℕ) (below : Bool) → nat_lt n 1000 ≡ below → (a b : ConditionId) (op : LogicalOperator) →
@@ -105,8 +86,8 @@ right_part n false is a b op e =
     let large : 1000 ≤ n = grind arith in
     omega arith
 
-module _ (endless : Bool) (requirements : List (ℕ × ConditionalRequirement)) (constraints : List (ℕ × VersionSetId)) where
-  pub test_ids_lawful : HasLawfulIds (test_universe endless requirements constraints)
+module _ (requirements : List (ℕ × ConditionalRequirement)) (constraints : List (ℕ × VersionSetId)) where
+  pub test_ids_lawful : HasLawfulIds (test_universe requirements constraints)
   test_ids_lawful = record {
     left_lower = λ i a b op e. left_part i.0 (nat_lt i.0 1000) refl a b op e;
     right_lower = λ i a b op e. right_part i.0 (nat_lt i.0 1000) refl a b op e;
@@ -123,7 +104,7 @@ module _ (endless : Bool) (requirements : List (ℕ × ConditionalRequirement)) 
   no_pairs : (xs : List ℕ) → length xs ≤ 1 → AllPairs ◌≢◌ xs
   no_pairs xs short = λ i j d before below same. omega arith
 
-  known_is_lawful : (n : ℕ) → IsLawfulPackage (test_universe endless requirements constraints) n (known_package n)
+  known_is_lawful : (n : ℕ) → IsLawfulPackage (test_universe requirements constraints) n (known_package n)
   known_is_lawful n =
       let OfThis : ℕ → Type 0 = λ s. s / 10 ≡ n in
       let Apart : ℕ → Type 0 = λ s. 10 * n + 1 ≢ s in
@@ -140,7 +121,7 @@ module _ (endless : Bool) (requirements : List (ℕ × ConditionalRequirement)) 
             (no_pairs ((10 * n + 4) ∷ []) (omega arith));
       }
 
-  package_is_lawful : (n : ℕ) (b : Bool) → IsLawfulPackage (test_universe endless requirements constraints) n (cond b (known_package n) unknown_package)
+  package_is_lawful : (n : ℕ) (b : Bool) → IsLawfulPackage (test_universe requirements constraints) n (cond b (known_package n) unknown_package)
   package_is_lawful n true = known_is_lawful n
   package_is_lawful n false = record {
     listed = λ s h. All-contains (λ t. t / 10 ≡ n) [] s (All-nil _) h;
@@ -150,9 +131,9 @@ module _ (endless : Bool) (requirements : List (ℕ × ConditionalRequirement)) 
     once = no_pairs [] (omega arith);
   }
 
-  pub test_packages_lawful : HasLawfulPackages (test_universe endless requirements constraints)
+  pub test_packages_lawful : HasLawfulPackages (test_universe requirements constraints)
   test_packages_lawful = record {
-    packages = λ n. package_is_lawful n (nat_lt n (package_count endless));
+    packages = λ n. package_is_lawful n (nat_lt n 100);
     filter_splits = λ xs v. Splits-filter (takes v) xs;
     sort_permutes = λ xs. IsPermutation-reverse xs;
   }

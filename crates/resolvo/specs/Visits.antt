@@ -1,14 +1,14 @@
 -- The clauses that watch a literal which has become false.
-use Rattle.std.specs.Prelude.{◌≡◌, ◌≢◌, ℕ, ◌-◌, ◌<◌, ◌≤◌, false, true, Some, List, length, Contains, slice_get, slice_index_or}
+use Rattle.std.specs.Prelude.{◌≡◌, ◌≢◌, ℕ, ◌-◌, ◌<◌, ◌≤◌, ◌++◌, ◌∷◌, if◌then◌else◌, false, true, MatchOption, Option, Some, List, [], length, Contains, slice_get, slice_index_or}
 use Rattle.std.specs.Bool.{beq}
-use Rattle.resolver_clause_store.specs.declared.Literal.{Literal}
+use Rattle.resolver_clause_store.specs.Literals.{Literal, list_number}
 use Rattle.resolver_clause_store.specs.declared.Slot.{Slot}
 use Rattle.resolver_clause_store.specs.declared.Trail.{Trail}
 use Rattle.resolver_clause_store.specs.Formula.{AreBelow}
 use Rattle.resolver_clause_store.specs.TrailView.{IsTop, literal_value, slot_of, variable_count}
 use Rattle.resolvo.specs.Propagation.{IsConflict}
 use Rattle.resolvo.specs.Propagators.{IsAttached, IsExcused, IsPropagator, head_of, late_of, pending_of}
-use Rattle.resolver_clause_store.specs.Watches.{IsPair, list_at, list_number, pair_at}
+use Rattle.resolver_clause_store.specs.Watches.{IsPair, list_at, pair_at}
 use Rattle.resolver_clause_store.specs.WatchesView.{lists_of}
 use Rattle.resolvo.specs.declared.propagator.Late.{Late}
 use Rattle.resolvo.specs.declared.propagator.Propagator.{Propagator}
@@ -37,6 +37,10 @@ pub record AreExcused (table : List (List Literal)) (trail : Trail) (watchers : 
     (level count : ℕ) : Type 0 where
   pub each : (place : ℕ) (watch : Watch) → place < count → slice_get watchers place ≡ Some watch → IsExcused table trail late pending level watch.number
 
+-- a clause is noted as late, unless the literal became false at the highest level
+abbrev pub late_with : List Late → FalseLiteral → ℕ → ℕ → List Late
+late_with late falsified number length = if falsified.is_top then late else late ++ record { number = number; length = length } ∷ []
+
 -- the invariant while the watchers of the literal are visited, after the first `count` of them
 pub record IsVisiting (table : List (List Literal)) (trail : Trail) (it : Propagator) (falsified : FalseLiteral) (count : ℕ) : Type 0 where
   pub below : AreBelow (variable_count trail) table
@@ -44,6 +48,12 @@ pub record IsVisiting (table : List (List Literal)) (trail : Trail) (it : Propag
   pub attached : IsAttached table it
   pub fails : FailsAt trail (head_of it) falsified
   pub excused : AreExcused table trail (watchers_of it falsified.literal) (late_of it) (pending_of it) falsified.level count
+
+-- the visits go on at the place of the next watcher, or all watchers are visited
+abbrev pub GoesOnAt : Trail → Propagator → FalseLiteral → ℕ → Option PlacedWatch → Type 0
+GoesOnAt trail it falsified from next = (table : List (List Literal)) → IsVisiting table trail it falsified from →
+    MatchOption next (IsVisiting table trail it falsified (length (watchers_of it falsified.literal)))
+    (λ placed. IsVisiting table trail it falsified placed.place)
 
 -- the visit goes on at the next place, with fewer watchers left
 pub record GoesOn (table : List (List Literal)) (trail : Trail) (old new : Propagator) (falsified : FalseLiteral) (place next : ℕ) : Type 0 where

@@ -1,6 +1,6 @@
 //! A search over clauses: it decides and propagates, learns from conflicts, and backtracks.
 
-ghost use Rattle.std.specs.Prelude.{◌<◌, ◌≡◌, ◌≤◌, ◌+◌, ◌++◌, ◌∷◌, ◌⊎◌, ◌-◌, [], ℕ, All, IfErr, IfNone, IfOk, IfSome, List, None, OnErr, OnOk, Vec, length};
+ghost use Rattle.std.specs.Prelude.{◌<◌, ◌≡◌, ◌≤◌, ◌+◌, ◌⊎◌, ◌-◌, [], All, IfErr, IfNone, IfOk, IfSome, None, OnErr, OnOk, Vec, length};
 ghost use Rattle.std.specs.Prelude.{false, max, true, if◌then◌else◌};
 ghost use Rattle.std.specs.declared.alloc.Global.{Global};
 ghost use Rattle.resolver_clause_store.specs.Formula.{AreBelow, IsBelow, clause_at};
@@ -10,7 +10,7 @@ ghost use Rattle.resolver_clause_store.specs.TrailView.{Gains, IsCut, IsTop, IsU
 ghost use Rattle.resolver_clause_store.specs.TrailView.{variable_count};
 ghost use Rattle.resolver_clause_store.specs.UnionEnds.{ends_in};
 ghost use Rattle.resolver_clause_store.specs.declared.Exhausted.TheVariants.{Ids, Memory};
-ghost use Rattle.resolver_clause_store.specs.declared.Literal.{Literal};
+ghost use Rattle.resolver_clause_store.specs.Literals.{Literal};
 ghost use Rattle.resolver_clause_store.specs.declared.Reason.TheVariants.{Assumed};
 ghost use Rattle.resolver_clause_store.specs.declared.RequirementClause.{RequirementClause};
 ghost use Rattle.resolver_clause_store.specs.declared.StoredRequirement.{StoredRequirement};
@@ -38,7 +38,6 @@ use resolver_clause_store::{
     Activity, Choice, Clauses, DecideQueue, DependencyProvider, Exhausted, Interrupted, Literal,
     Owner, RequirementClause, StoredRequirement, Trail, UnionEnds, check_cancel, clause, narrow,
 };
-use resolver_encoding::ClauseRuns;
 use std::alloc::{AllocError, Global};
 
 /// The result of a search.
@@ -118,7 +117,8 @@ pub fn ends_of<'x>(requirement: &RequirementClause, union_ends: &'x UnionEnds) -
 impl ClauseSearch {
     ghost use Rattle.resolvo.specs.ClauseSearches.{IsConsistent, IsBacktrack, IsLoaded, IsRootTurn};
     ghost use Rattle.resolvo.specs.ClauseSearches.{IsSameProblem, IsSameSearch, SetsNone, StaysBookmarked, KeepsLoaded};
-    ghost use Rattle.resolvo.specs.ClauseSearches.{KeepsBookmark, KeepsTurn, OutcomeIs, base_of, clause_count_of, held_of, kept_of, learnt_count_of};
+    ghost use Rattle.resolvo.specs.ClauseSearches.{HasOutcome, LoadsAll, LoadsClause, LoadsClauses, LoadsRequirement, LoadsRequirements};
+    ghost use Rattle.resolvo.specs.ClauseSearches.{KeepsBookmark, KeepsTurn, base_of, clause_count_of, held_of, kept_of, learnt_count_of};
     ghost use Rattle.resolvo.specs.ClauseSearches.{HasDecided, IsStalled, numbers_of, trail_of};
 
     /// Returns a search without variables and clauses. The activity has the parameters of its scores.
@@ -262,11 +262,10 @@ impl ClauseSearch {
         requires consistent { IsConsistent self.old }
         requires below { IsBelow (variable_count (trail_of self.old)) literals.now }
         ensures consistent { OnOk result (IsConsistent self.new) }
-        ensures loaded { OnOk result ((given : List (List Literal)) (numbers : List ℕ) →
-            IsLoaded given numbers self.old → IsLoaded (given ++ literals.now ∷ []) numbers self.new) }
+        ensures loaded { OnOk result (LoadsClause self.old self.new literals.now) }
         ensures same { OnOk result (IsSameSearch self.old self.new) }
         ensures count { OnOk result (length self.new.places ≡ length self.old.places + 1) }
-        ensures undone { OnOk result (IsFalsified (trail_of self.old) literals.now → TakesBack (trail_of self.old) (trail_of self.new) literals.now (base_of self.old)) }
+        ensures undone { OnOk result (IsFalsified self.old.trail literals.now → TakesBack self.old.trail self.new.trail literals.now self.old.base) }
         ensures stays { OnOk result ((IsFalsified (trail_of self.old) literals.now → ⊥) → Extends (trail_of self.old) (trail_of self.new)) }
     {
         let number = self.places.len();
@@ -285,19 +284,16 @@ impl ClauseSearch {
     }
 
     /// Loads the clauses after those that are loaded.
-    fn load_clauses(&mut self, alloc: Global, clauses: &ClauseRuns) -> Result<(), AllocError>
+    fn load_clauses(&mut self, clauses: &Clauses) -> Result<(), AllocError>
         requires consistent { IsConsistent self.old }
         requires below { AreBelow (variable_count (trail_of self.old)) clauses.now }
         ensures consistent { OnOk result (IsConsistent self.new) }
-        ensures loaded { OnOk result ((given : List (List Literal)) (numbers : List ℕ) (more : List (List Literal)) →
-            IsLoaded given numbers self.old → clauses.now ≡ given ++ more → IsLoaded clauses.now numbers self.new) }
+        ensures loaded { OnOk result (LoadsClauses self.old self.new clauses.now) }
         ensures same { OnOk result (IsSameSearch self.old self.new) }
         ensures count { OnOk result (length clauses.now ≤ length self.new.places) }
     {
-        let mut literals = Vec::new(alloc);
         'clauses: for number in self.places.len()..clauses.len() {
-            clauses.read(number, &mut literals)?;
-            self.load_clause(&literals)?;
+            self.load_clause(clause(clauses, number))?;
         }
         Ok(())
     }
@@ -311,8 +307,7 @@ impl ClauseSearch {
         requires consistent { IsConsistent self.old }
         requires inside { requirement.now.number < length self.old.places }
         ensures consistent { OnOk result (IsConsistent self.new) }
-        ensures loaded { OnOk result ((given : List (List Literal)) (numbers : List ℕ) → IsLoaded given numbers self.old →
-            IsLoaded given (numbers ++ requirement.now.number ∷ []) self.new) }
+        ensures loaded { OnOk result (LoadsRequirement self.old self.new requirement.now.number) }
         ensures same { OnOk result (IsSameSearch self.old self.new) }
         ensures places { OnOk result (self.new.places ≡ self.old.places) }
         ensures count { OnOk result (length self.new.requirements.items ≡ length self.old.requirements.items + 1) }
@@ -340,8 +335,7 @@ impl ClauseSearch {
         requires consistent { IsConsistent self.old }
         requires inside { All (λ (requirement : RequirementClause). requirement.number < length self.old.places) requirements.now }
         ensures consistent { OnOk result (IsConsistent self.new) }
-        ensures loaded { OnOk result ((given : List (List Literal)) (numbers more : List ℕ) → IsLoaded given numbers self.old →
-            numbers_of requirements.now ≡ numbers ++ more → IsLoaded given (numbers_of requirements.now) self.new) }
+        ensures loaded { OnOk result (LoadsRequirements self.old self.new (numbers_of requirements.now)) }
         ensures same { OnOk result (IsSameSearch self.old self.new) }
     {
         'requirements: for index in self.requirements.len()..requirements.len() {
@@ -358,9 +352,8 @@ impl ClauseSearch {
     /// number, if the variable stands for a solvable.
     pub fn load(
         &mut self,
-        alloc: Global,
         variables: usize,
-        clauses: &ClauseRuns,
+        clauses: &Clauses,
         requirements: &[RequirementClause],
         union_ends: &UnionEnds,
         owners: &[Owner],
@@ -370,9 +363,7 @@ impl ClauseSearch {
         requires inside { All (λ (requirement : RequirementClause). requirement.number < length clauses.now) requirements.now }
         requires room { variable_count (trail_of self.old) ≤ variables }
         ensures consistent { OnOk result (IsConsistent self.new) }
-        ensures loaded { OnOk result ((given : List (List Literal)) (numbers : List ℕ) → IsLoaded given numbers self.old →
-            (more : List (List Literal)) → clauses.now ≡ given ++ more → (more_numbers : List ℕ) → numbers_of requirements.now ≡ numbers ++ more_numbers →
-            IsLoaded clauses.now (numbers_of requirements.now) self.new) }
+        ensures loaded { OnOk result (LoadsAll self.old self.new clauses.now (numbers_of requirements.now)) }
         ensures variables { OnOk result (variable_count (trail_of self.new) ≡ variables) }
         ensures learnt { OnOk result (learnt_count_of self.new ≡ learnt_count_of self.old) }
         ensures kept { OnOk result (KeepsBookmark self.old self.new) }
@@ -384,7 +375,7 @@ impl ClauseSearch {
         self.trail.grow(variables)?;
         self.propagator.grow(variables)?;
         self.queue.learn_owners(owners)?;
-        self.load_clauses(alloc, clauses)?;
+        self.load_clauses(clauses)?;
         self.load_requirements(requirements, union_ends)?;
         Ok(())
     }
@@ -398,8 +389,8 @@ impl ClauseSearch {
         requires above { self.old.base < level_in self.old.trail learnt.literal.variable }
         ensures consistent { OnOk result (IsConsistent self.new) }
         ensures same { OnOk result (IsSameProblem self.old self.new) }
-        ensures backtrack_level { OnOk result (IsBacktrack self.old.trail self.new.trail learnt.literal (max learnt.backtrack_level self.old.base)
-            (length self.old.table)) }
+        ensures level { OnOk result
+            (IsBacktrack self.old.trail self.new.trail learnt.literal (max learnt.backtrack_level self.old.base) (length self.old.table)) }
         ensures stored { OnOk result (clause_at self.new.table (length self.old.table) ≡ learnt.literals.items) }
         ensures count { OnOk result (learnt_count_of self.new ≡ learnt_count_of self.old + 1) }
     {
@@ -433,9 +424,7 @@ impl ClauseSearch {
     ) -> Result<Option<Outcome>, Exhausted>
         requires consistent { IsConsistent self.old }
         requires learnt { IsLearnt self.old.table self.old.trail learnt }
-        ensures outcome { IfOk result (λ answer.
-            IfSome answer (λ outcome. (given : List (List Literal)) (numbers : List ℕ) → IsLoaded given numbers self.old →
-            OutcomeIs given numbers self.new.trail self.new.base outcome)) }
+        ensures outcome { IfOk result (λ answer. IfSome answer (HasOutcome self.old self.new)) }
         ensures consistent { OnOk result (IsConsistent self.new) }
         ensures same { OnOk result (IsSameProblem self.old self.new) }
         ensures more { IfOk result (λ answer. IfNone answer (learnt_count_of self.new ≡ learnt_count_of self.old + 1)) }
@@ -463,9 +452,7 @@ impl ClauseSearch {
     ) -> Result<Option<Outcome>, Exhausted>
         requires consistent { IsConsistent self.old }
         requires conflict { IsConflict self.old.trail self.old.table number }
-        ensures outcome { IfOk result (λ answer.
-            IfSome answer (λ outcome. (given : List (List Literal)) (numbers : List ℕ) → IsLoaded given numbers self.old →
-            OutcomeIs given numbers self.new.trail self.new.base outcome)) }
+        ensures outcome { IfOk result (λ answer. IfSome answer (HasOutcome self.old self.new)) }
         ensures consistent { OnOk result (IsConsistent self.new) }
         ensures same { OnOk result (IsSameProblem self.old self.new) }
         ensures more { IfOk result (λ answer. IfNone answer (learnt_count_of self.new ≡ learnt_count_of self.old + 1)) }
@@ -648,9 +635,7 @@ impl ClauseSearch {
         clause_limit: usize,
     ) -> Result<Outcome, Interrupted<D::Cancel>>
         requires consistent { IsConsistent self.old }
-        ensures outcome { IfOk result (λ outcome.
-            (given : List (List Literal)) (numbers : List ℕ) → IsLoaded given numbers self.old →
-            OutcomeIs given numbers (trail_of self.new) (base_of self.new) outcome) }
+        ensures outcome { IfOk result (HasOutcome self.old self.new) }
         ensures consistent { OnOk result (IsConsistent self.new) }
         ensures loaded { OnOk result (KeepsLoaded self.old self.new) }
         ensures variables { OnOk result (variable_count (trail_of self.new) ≡ variable_count (trail_of self.old)) }

@@ -7,10 +7,8 @@ ghost use Rattle.resolver_report.specs.Displays.{displayed_graph, interner_in};
 ghost use Rattle.resolver_report.specs.Graphs.{graph_of as graph_of_rules};
 ghost use Rattle.resolver_report.specs.ReachedPlaces.{AreNodesReached};
 ghost use Rattle.resolver_report.specs.ReachedRules.{IsKept};
-ghost use Rattle.resolver_report.specs.TrueEdges.{AreEdgesTrue};
 ghost use Rattle.resolver_clause_store.specs.Laws.{IsIdentity};
 ghost use Rattle.resolver_clause_store.specs.Rules.{IsIrreducible, IsRefuted};
-ghost use Rattle.resolver_clause_store.specs.TrueRules.{IsTrueRule};
 ghost use Rattle.resolvo.specs.Explanations.{Explains};
 ghost use Rattle.resolvo.specs.Minimal.{CopiesLeft, CopiesPart};
 ghost use Rattle.resolvo.specs.Solvers.{provider_in};
@@ -45,7 +43,7 @@ impl<N, S> Conflict<N, S> {
 }
 
 impl<N: Copy + Eq + Ord + Hash + Drop, S: Copy + Eq + Ord + Hash + Drop> Conflict<N, S> {
-    ghost use Rattle.resolvo.specs.Conflicts.{rules_in};
+    ghost use Rattle.resolvo.specs.Conflicts.{HasTrueEdges, rules_in};
 
     /// Returns a conflict from which no rule can be left out: without any one of them, some set of solvables obeys the
     /// others.
@@ -99,8 +97,7 @@ impl<N: Copy + Eq + Ord + Hash + Drop, S: Copy + Eq + Ord + Hash + Drop> Conflic
         _solver: &Solver<D>,
     ) -> Result<ConflictGraph<S>, Exhausted>
         ensures graph { IfOk result (λ graph. shape_of graph ≡ graph_of_rules N.eq S.eq (rules_in self.now)) }
-        ensures true_edges { IfOk result (λ graph.
-            (u : Universe N S) (root : Demands) → All (IsTrueRule u root) (rules_in self.now) → AreEdgesTrue u root (shape_of graph).shape) }
+        ensures true_edges { IfOk result (λ graph. HasTrueEdges (rules_in self.now) (shape_of graph)) }
         ensures reached_nodes { IfOk result (λ graph. All (IsKept (rules_in self.now)) (rules_in self.now) → AreNodesReached (shape_of graph)) }
         ensures memory { IfErr result (λ e. e ≡ Exhausted.Memory) }
     {

@@ -2,7 +2,7 @@
 
 ghost use Rattle.std.specs.Prelude.{◌≡◌, ℕ, ◌<◌, length, IfOk, OnOk, All, Vec, List, false, []};
 ghost use Rattle.std.specs.declared.alloc.Global.{Global};
-ghost use Rattle.resolver_clause_store.specs.declared.Literal.{Literal};
+ghost use Rattle.resolver_clause_store.specs.Literals.{Literal};
 ghost use Rattle.resolver_clause_store.specs.Formula.{FollowsFrom};
 ghost use Rattle.resolver_clause_store.specs.Outcomes.{IsCore};
 ghost use Rattle.resolvo.specs.Derivations.{AddsMarked, AreGiven, IsDerived, ListsMarked, MarksNumbers, Replaces, Stands, causes_at, given_at};

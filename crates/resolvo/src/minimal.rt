@@ -14,7 +14,7 @@ ghost use Rattle.resolver_clause_store.specs.Statements.{StatesTheSame};
 ghost use Rattle.resolver_clause_store.specs.Rules.{IsRefuted};
 ghost use Rattle.resolvo.specs.MarkedClauses.{VerdictIs};
 ghost use Rattle.resolvo.specs.RuleClauses.{DecideRules};
-ghost use Rattle.resolvo.specs.Minimal.{IsUnderway, LeavesInTurn, marked, others_of};
+ghost use Rattle.resolvo.specs.Minimal.{CopiesFirst, IsUnderway, LeavesInTurn, marked, others_of};
 ghost use Rattle.resolvo.specs.Rotations.{AreNeeded, AreUnderway};
 
 use decision::{Verdict, decide};
@@ -53,8 +53,7 @@ fn add_copy<N: Copy + Drop, S: Copy + Drop>(
 ) -> Result<(), Exhausted>
     requires inside { place < length rules.now }
     requires size { length marks.now ≡ length rules.now }
-    ensures same { OnOk result (AllZip StatesTheSame (marked (take place marks.now) rules.now) copies.old.items →
-        AllZip StatesTheSame (marked (take (place + 1) marks.now) rules.now) copies.new.items) }
+    ensures same { OnOk result (CopiesFirst place marks.now rules.now copies.old.items → CopiesFirst (place + 1) marks.now rules.now copies.new.items) }
     ensures memory { IfErr result (λ e. e ≡ Exhausted.Memory) }
 {
     if !marks[place] {

@@ -75,9 +75,10 @@ impl<N: Copy + Eq + Hash + Drop> Owners<N> {
     >(&mut self, provider: &D, variables: &Variables<N, S>, index: usize) -> Result<(), Exhausted>
         ensures memory { IfErr result (λ e. e ≡ Memory) }
     {
-        let origin = match u32::try_from(index) {
-            Ok(number) => variables.origin(Variable::new(number)),
-            Err(_) => None,
+        let origin = if index < 1 << 31 {
+            variables.origin(Variable::new(index as u32))
+        } else {
+            None
         };
         let owner = self.owner_of(provider, origin)?;
         self.owners.push(owner)?;

@@ -77,7 +77,7 @@ pub fn kept_level(
     requires inside { choice.number < length table.now }
     requires place { choice.place < length (clause_at table.now choice.number) }
 {
-    let candidate = clause(table, choice.number)[choice.place].variable;
+    let candidate = clause(table, choice.number)[choice.place].variable();
     let next = precedence_of(table, requirements, queue, candidate, choice.number);
     'places: for place in from..trail.len() {
         let variable = trail.variable_at(place);

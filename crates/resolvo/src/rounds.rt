@@ -3,28 +3,25 @@
 mod soft_turns;
 
 ghost use Rattle.std.specs.Iterator.{IsFinite};
-ghost use Rattle.std.specs.Prelude.{◌≡◌, ◌+◌, ◌-◌, ◌++◌, ◌≤◌, ◌<◌, ◌⊎◌, ◌^◌, [], Contains, IfErr, IfNone, IfOk, IfSome, List, None, OnOk, Some, false, length, map};
+ghost use Rattle.std.specs.Prelude.{◌≡◌, ◌+◌, ◌-◌, ◌≤◌, ◌<◌, ◌⊎◌, ◌^◌, [], Contains, IfErr, IfNone, IfOk, IfSome, None, OnOk, Some, false, length};
 ghost use Rattle.std.specs.Prelude.{min, slice_get, true};
 ghost use Rattle.resolver_clause_store.specs.TrailView.{length_of, slot_of};
-ghost use Rattle.resolver_clause_store.specs.Universe.{Demands};
-ghost use Rattle.resolver_clause_store.specs.declared.SoftRequirement.TheVariants.{Solvable as SoftSolvable};
 ghost use Rattle.resolver_clause_store.specs.declared.Origin.TheVariants.{Solvable as SolvableOrigin};
-ghost use Rattle.resolvo.specs.Problems.{AreItems};
+ghost use Rattle.resolvo.specs.Problems.{AreItems, demands_in, list_in};
 ghost use Rattle.resolver_clause_store.specs.Caches.{IsTrueCache};
 ghost use Rattle.resolver_clause_store.specs.Laws.{IsIdentity};
 ghost use Rattle.resolver_clause_store.specs.Variables.{AreDistinct};
 ghost use Rattle.resolver_encoding.specs.Refusals.{IsStop};
 ghost use Rattle.resolver_encoding.specs.SoFar.{IsProgress, IsReadSoFar};
 ghost use Rattle.resolver_encoding.specs.Reach.{AreNear};
-ghost use Rattle.resolvo.specs.declared.rounds.Found.TheVariants.{Answer as FoundAnswer};
 ghost use Rattle.resolver_encoding.specs.declared.progress.Progress.TheVariants.{Read as ReadProgress};
-ghost use Rattle.resolvo.specs.ClauseSearches.{HasDecided, IsConsistent, IsRootTurn, IsStalled, KeepsTurn, OutcomeIs, base_of, clause_count_of, learnt_count_of, trail_of};
+ghost use Rattle.resolvo.specs.ClauseSearches.{HasDecided, IsConsistent, IsRootTurn, IsStalled, KeepsTurn, OutcomeIs, learnt_count_of, trail_of};
 
 use crate::clause_search::{ClauseSearch, Outcome};
 use crate::owners::Owners;
+use crate::problem::Problem;
 use resolver_clause_store::{
-    Activity, Cache, ConditionalRequirement, DependencyProvider, Exhausted, Interner, Interrupted,
-    Literal, SoftRequirement, Variable, VersionSetId,
+    Activity, Cache, DependencyProvider, Exhausted, Interner, Interrupted, Literal, Variable,
 };
 use resolver_encoding::{Chosen, Encoding, Progress};
 use std::alloc::Global;
@@ -65,9 +62,9 @@ pub struct Rounds<N: Copy + Eq + Hash + Drop, S: Copy + Eq + Hash + Drop> {
 }
 
 impl<N: Copy + Eq + Hash + Drop, S: Copy + Eq + Hash + Drop> Rounds<N, S> {
-    ghost use Rattle.resolvo.specs.RoundStates.{AreRounds, GoesOn, HasFollowed, HasBookmark, HasAssumed, HasTurned, IsAnswering, IsDone};
+    ghost use Rattle.resolvo.specs.RoundStates.{AreAtRest, AreRounds, GoesOn, HasFollowed, HasBookmark, HasAssumed, IsAnswering, IsDoneBy};
     ghost use Rattle.resolvo.specs.RoundStates.{IsFollowing, IsRefusing, IsFound, IsFresh, IsStill, IsRound, IsSearchOf, IsStuck, IsUnanswered, IsUpToDate};
-    ghost use Rattle.resolvo.specs.RoundStates.{IsStanding, KeepsEncoding, KeepsRoom};
+    ghost use Rattle.resolvo.specs.RoundStates.{KeepsEncoding, KeepsRoom, TakesTurn};
     ghost use Rattle.resolvo.specs.RoundStates.{chosen_of, clause_limit_of, learnt_limit_of, notes_of, search_of};
 
     /// Returns rounds that have read nothing.
@@ -109,28 +106,29 @@ impl<N: Copy + Eq + Hash + Drop, S: Copy + Eq + Hash + Drop> Rounds<N, S> {
     }
 
     /// Reads the root.
-    fn begin<D: DependencyProvider<NameId = N, SolvableId = S>>(
+    fn begin<D: DependencyProvider<NameId = N, SolvableId = S>, I: Drop>(
         &mut self,
         provider: &D,
         cache: &mut Cache<N, S>,
-        requirements: &[ConditionalRequirement],
-        constraints: &[VersionSetId],
+        problem: &Problem<S, I>,
     ) -> Result<(), Interrupted<D::Cancel>>
         requires fresh { IsFresh self.old }
         requires is_true { IsTrueCache (D.universe provider.now) cache.old }
         ensures is_true { IsTrueCache (D.universe provider.now) cache.new }
         ensures rounds { OnOk result (AreRounds (D.universe provider.now) self.new) }
-        ensures read { OnOk result (IsReadSoFar (D.universe provider.now) (record { requirements = requirements.now; constraints = constraints.now })
-            (chosen_of self.new) (notes_of self.new)) }
-        ensures near { OnOk result (AreNear (D.universe provider.now) (record { requirements = requirements.now; constraints = constraints.now }) [] []
-            (notes_of self.new)) }
+        ensures read { OnOk result (IsReadSoFar (D.universe provider.now) (demands_in problem.now) (chosen_of self.new) (notes_of self.new)) }
+        ensures near { OnOk result (AreNear (D.universe provider.now) (demands_in problem.now) [] [] (notes_of self.new)) }
         ensures exempt { OnOk result ((notes_of self.new).exempt ≡ []) }
         ensures turn { OnOk result (IsRootTurn (search_of self.new)) }
         ensures limits { KeepsRoom self.old self.new }
         ensures refusal { IfErr result (IsStop (D.may_cancel provider.now) (IsStuck self.new)) }
     {
-        self.encoding
-            .read_root(provider, cache, requirements, constraints)?;
+        self.encoding.read_root(
+            provider,
+            cache,
+            problem.root_requirements(),
+            problem.root_constraints(),
+        )?;
         Ok(())
     }
 
@@ -152,7 +150,6 @@ impl<N: Copy + Eq + Hash + Drop, S: Copy + Eq + Hash + Drop> Rounds<N, S> {
         let loaded = self.search.trail().variable_count();
         self.owners.follow(provider, known, loaded)?;
         self.search.load(
-            self.alloc,
             known.len(),
             self.encoding.literals(),
             self.encoding.requirements(),
@@ -172,8 +169,7 @@ impl<N: Copy + Eq + Hash + Drop, S: Copy + Eq + Hash + Drop> Rounds<N, S> {
         ensures loaded { OnOk result (IsUpToDate self.new) }
         ensures same { IsSearchOf self.old self.new }
         ensures turn { OnOk result (KeepsTurn (search_of self.old) (search_of self.new)) }
-        ensures outcome { IfOk result (OutcomeIs (notes_of self.new).table (notes_of self.new).requirements (trail_of (search_of self.new))
-            (base_of (search_of self.new))) }
+        ensures outcome { IfOk result (OutcomeIs (notes_of self.new).table (notes_of self.new).requirements (search_of self.new)) }
         ensures limits { KeepsRoom self.old self.new }
         ensures refusal { IfErr result (IsStop (D.may_cancel provider.now) (IsStuck self.new)) }
     {
@@ -241,9 +237,9 @@ impl<N: Copy + Eq + Hash + Drop, S: Copy + Eq + Hash + Drop> Rounds<N, S> {
         ensures loaded { OnOk result (IsUpToDate self.new) }
         ensures same { IsSearchOf self.old self.new }
         ensures turn { OnOk result (KeepsTurn (search_of self.old) (search_of self.new)) }
-        ensures made { IfOk result (λ is_made. is_made ≡ true → HasDecided (search_of self.new)) }
-        ensures none { IfOk result (λ is_made. is_made ≡ false →
-            (length_of (trail_of (search_of self.old)) ≤ length_of (trail_of (search_of self.new))) ⊎ IsStalled (search_of self.new)) }
+        ensures made { IfOk result (λ made. made ≡ true → HasDecided (search_of self.new)) }
+        ensures none { IfOk result (λ made. made ≡ false →
+            (length_of (trail_of self.old.search) ≤ length_of (trail_of self.new.search)) ⊎ IsStalled self.new.search) }
         ensures limits { KeepsRoom self.old self.new }
         ensures refusal { IfErr result (IsStop (D.may_cancel provider.now) (IsStuck self.new)) }
     {
@@ -395,8 +391,7 @@ impl<N: Copy + Eq + Hash + Drop, S: Copy + Eq + Hash + Drop> Rounds<N, S> {
         requires assumed { HasAssumed (search_of self.old) variable }
         requires one_turn { length (notes_of self.old).exempt ≤ exempt + 1 }
         ensures is_true { IsTrueCache (D.universe provider.now) cache.new }
-        ensures rounds { OnOk result (AreRounds (D.universe provider.now) self.new) }
-        ensures still { OnOk result (IsStill self.new) }
+        ensures rest { OnOk result (AreAtRest (D.universe provider.now) self.new) }
         ensures refused { OnOk result (IsRefusing (D.universe provider.now) variable exempt self.old self.new) }
         ensures limits { KeepsRoom self.old self.new }
         ensures refusal { IfErr result (IsStop (D.may_cancel provider.now) (IsStuck self.new)) }
@@ -404,10 +399,7 @@ impl<N: Copy + Eq + Hash + Drop, S: Copy + Eq + Hash + Drop> Rounds<N, S> {
         self.encoding.end_turn(provider, cache, exempt)?;
         self.load(provider)?;
         self.search.retract()?;
-        self.search.assume(Literal {
-            variable,
-            positive: false,
-        })?;
+        self.search.assume(Literal::new(variable, false))?;
         self.follow()?;
         Ok(())
     }
@@ -444,28 +436,21 @@ impl<N: Copy + Eq + Hash + Drop, S: Copy + Eq + Hash + Drop> Rounds<N, S> {
         solvable: S,
         variable: Variable,
     ) -> Result<bool, Interrupted<D::Cancel>>
-        requires rounds { AreRounds (D.universe provider.now) self.old }
+        requires rest { AreAtRest (D.universe provider.now) self.old }
         requires loaded { IsUpToDate self.old }
-        requires still { IsStill self.old }
         requires is_true { IsTrueCache (D.universe provider.now) cache.old }
         requires stands { slice_get (notes_of self.old).origins variable ≡ Some (SolvableOrigin solvable) }
         requires free { slot_of (trail_of (search_of self.old)) variable ≡ None }
         ensures is_true { IsTrueCache (D.universe provider.now) cache.new }
-        ensures rounds { OnOk result (AreRounds (D.universe provider.now) self.new) }
-        ensures still { OnOk result (IsStill self.new) }
-        ensures turned { IfOk result (λ is_chosen.
-            (root : Demands) (taken refused seeds : List S) (packages : List N) → Contains (notes_of self.old).seen solvable → Contains seeds solvable →
-            IsStanding (D.universe provider.now) root taken refused seeds packages self.old →
-            HasTurned (D.universe provider.now) root taken refused seeds packages solvable self.old self.new is_chosen) }
+        ensures rest { OnOk result (AreAtRest (D.universe provider.now) self.new) }
+        ensures turned { IfOk result (λ chosen.
+            Contains (notes_of self.old).seen solvable → TakesTurn (D.universe provider.now) solvable self.old self.new chosen) }
         ensures limits { KeepsRoom self.old self.new }
         ensures refusal { IfErr result (IsStop (D.may_cancel provider.now) (IsStuck self.new)) }
     {
         let exempt = self.encoding.exempt().len();
         self.encoding.begin_turn(provider, solvable)?;
-        self.search.assume(Literal {
-            variable,
-            positive: true,
-        })?;
+        self.search.assume(Literal::new(variable, true))?;
         let answered = self.is_answered(provider, cache)?;
         if answered {
             self.search.hold();
@@ -482,16 +467,11 @@ impl<N: Copy + Eq + Hash + Drop, S: Copy + Eq + Hash + Drop> Rounds<N, S> {
         cache: &mut Cache<N, S>,
         solvable: S,
     ) -> Result<bool, Interrupted<D::Cancel>>
-        requires rounds { AreRounds (D.universe provider.now) self.old }
-        requires still { IsStill self.old }
+        requires rest { AreAtRest (D.universe provider.now) self.old }
         requires is_true { IsTrueCache (D.universe provider.now) cache.old }
         ensures is_true { IsTrueCache (D.universe provider.now) cache.new }
-        ensures rounds { OnOk result (AreRounds (D.universe provider.now) self.new) }
-        ensures still { OnOk result (IsStill self.new) }
-        ensures turned { IfOk result (λ is_chosen.
-            (root : Demands) (taken refused seeds : List S) (packages : List N) → Contains seeds solvable →
-            IsStanding (D.universe provider.now) root taken refused seeds packages self.old →
-            HasTurned (D.universe provider.now) root taken refused seeds packages solvable self.old self.new is_chosen) }
+        ensures rest { OnOk result (AreAtRest (D.universe provider.now) self.new) }
+        ensures turned { IfOk result (TakesTurn (D.universe provider.now) solvable self.old self.new) }
         ensures limits { KeepsRoom self.old self.new }
         ensures refusal { IfErr result (IsStop (D.may_cancel provider.now) (IsStuck self.new)) }
     {
@@ -507,34 +487,30 @@ impl<N: Copy + Eq + Hash + Drop, S: Copy + Eq + Hash + Drop> Rounds<N, S> {
     }
 
     /// Reads and searches until the chosen solvables are an answer or there is none. After an answer, the soft
-    /// requirements have their turns.
+    /// requirements have their turns: those of the iterator, then those of the problem's list.
     pub fn find<D: DependencyProvider<NameId = N, SolvableId = S>, I: Iterator<Item = S> + Drop>(
         &mut self,
         provider: &D,
         cache: &mut Cache<N, S>,
-        requirements: &[ConditionalRequirement],
-        constraints: &[VersionSetId],
+        problem: &Problem<S, I>,
         soft: Option<I>,
-        list: &[SoftRequirement<S>],
     ) -> Result<Found, Interrupted<D::Cancel>>
         requires can_next { IfSome soft (λ it. I.can_next it) }
         requires ends { IfSome soft (λ it. IsFinite (I.remaining it)) }
         requires fresh { IsFresh self.old }
         requires is_true { IsTrueCache (D.universe provider.now) cache.old }
         ensures is_true { IsTrueCache (D.universe provider.now) cache.new }
-        ensures done { IfOk result (λ found.
-            (items : List S) × (found ≡ FoundAnswer → AreItems I.next_gives soft items) ×
-            IsDone (D.universe provider.now) (record { requirements = requirements.now; constraints = constraints.now })
-            (map SoftSolvable items ++ list.now) self.new found) }
+        ensures done { IfOk result
+            (IsDoneBy (D.universe provider.now) (demands_in problem.now) (AreItems I.next_gives soft) (list_in problem.now) self.new) }
         ensures table { OnOk result (length (notes_of self.new).table ≡ length (notes_of self.new).kinds) }
         ensures limits { KeepsRoom self.old self.new }
         ensures refusal { IfErr result (IsStop (D.may_cancel provider.now) (IsStuck self.new)) }
     {
-        self.begin(provider, cache, requirements, constraints)?;
+        self.begin(provider, cache, problem)?;
         match self.all_rounds(provider, cache)? {
             Found::Answer => {
                 self.search.hold();
-                self.soft_turns(provider, cache, soft, list)?;
+                self.soft_turns(provider, cache, soft, problem.listed_soft_requirements())?;
                 Ok(Found::Answer)
             }
             Found::Contradiction(core) => Ok(Found::Contradiction(core)),

@@ -102,7 +102,7 @@ fn first_open(trail: &Trail, clause: &[Literal]) -> Option<usize>
             Some(true) => return None,
             Some(false) => (),
             None => {
-                if !clause[place].positive {
+                if !clause[place].is_positive() {
                     return None;
                 }
                 first = first.or(Some(place));

@@ -1,35 +1,29 @@
 //! The solver.
 
-ghost use Rattle.std.specs.Prelude.{[], All, IfErr, IfOk, IfSome, List, Ok, OnErr, OnOk, length, map, ◌++◌, ◌<◌, ◌^◌, ◌≡◌};
+ghost use Rattle.std.specs.Prelude.{[], All, IfErr, IfOk, IfSome, Ok, OnErr, OnOk, length, ◌<◌, ◌^◌, ◌≡◌};
 ghost use Rattle.resolver_clause_store.specs.Caches.{IsTrueCache};
 ghost use Rattle.resolver_clause_store.specs.Interruptions.{IsInterruption};
-ghost use Rattle.resolver_clause_store.specs.Outcomes.{IsCore};
-ghost use Rattle.resolver_clause_store.specs.Universe.{Demands};
-ghost use Rattle.resolver_encoding.specs.Encodings.{IsEncoding, Notes};
 ghost use Rattle.resolver_encoding.specs.Refusals.{IsStop};
-ghost use Rattle.resolver_encoding.specs.SoFar.{IsReadSoFar};
-ghost use Rattle.resolvo.specs.Answers.{IsSoftAnswer};
+ghost use Rattle.resolvo.specs.Answers.{AnswersFound, IsAnswerTo};
 ghost use Rattle.resolvo.specs.Conflicts.{rules_in};
-ghost use Rattle.resolvo.specs.Explanations.{Explains};
+ghost use Rattle.resolvo.specs.Explanations.{ExplainsCore};
 ghost use Rattle.resolvo.specs.declared.rounds.Found.TheVariants.{Answer as FoundAnswer};
-ghost use Rattle.resolvo.specs.Problems.{AreItems, demands_in, list_in, soft_in};
-ghost use Rattle.resolver_clause_store.specs.declared.SoftRequirement.{SoftRequirement as SoftRequirementOf};
-ghost use Rattle.resolver_clause_store.specs.declared.SoftRequirement.TheVariants.{Solvable as SoftSolvable};
+ghost use Rattle.resolvo.specs.Problems.{demands_in, soft_in};
 ghost use Rattle.std.specs.Iterator.{IsFinite};
 ghost use Rattle.resolvo.specs.declared.solver.UnsolvableOrCancelled.TheVariants.{Exhausted as ExhaustedError};
 ghost use Rattle.resolver_clause_store.specs.declared.Exhausted.TheVariants.{Memory};
-ghost use Rattle.resolvo.specs.Refusals.{IsRefusal};
-ghost use Rattle.resolvo.specs.RoundStates.{IsDone, IsSomeDone, IsStuck, chosen_of, notes_of};
-ghost use Rattle.resolvo.specs.Solvers.{HasActivity, HasLimits, IsAtLimit, IsSound, KeepsActivity, KeepsLimits};
+ghost use Rattle.resolvo.specs.Refusals.{IsRefusal, RefusesCore, RefusesFound};
+ghost use Rattle.resolvo.specs.RoundStates.{IsSomeDone, IsStuck, chosen_of, notes_of};
+ghost use Rattle.resolvo.specs.Solvers.{HasActivity, HasLimits, IsAtLimit, IsSameSolver, IsSound, KeepsActivity, KeepsLimits};
 ghost use Rattle.resolvo.specs.Solvers.{clause_count_in, deferred_count_in, exempt_in, provider_in, rounds_in};
 
 use crate::conflict::Conflict;
 use crate::problem::Problem;
 use crate::rounds::{Found, Rounds};
 use resolver_clause_store::{
-    Activity, Cache, DependencyProvider, Exhausted, Interner, Interrupted,
+    Activity, Cache, ClauseKind, DependencyProvider, Exhausted, Interner, Interrupted,
 };
-use resolver_encoding::{ClauseKinds, rules_of_clauses};
+use resolver_encoding::rules_of_clauses;
 use resolver_report::keep_reached;
 use std::alloc::Global;
 use std::mem::replace;
@@ -50,15 +44,13 @@ fn explain<D: DependencyProvider>(
     alloc: Global,
     provider: &D,
     cache: &mut Cache<D::NameId, D::SolvableId>,
-    kinds: &ClauseKinds<D::NameId, D::SolvableId>,
+    kinds: &[ClauseKind<D::NameId, D::SolvableId>],
     core: &[usize],
 ) -> Result<Conflict<D::NameId, D::SolvableId>, Interrupted<D::Cancel>>
     requires is_true { IsTrueCache (D.universe provider.now) cache.old }
     requires within { All (λ n. n < length kinds.now) core.now }
     ensures is_true { IsTrueCache (D.universe provider.now) cache.new }
-    ensures explained { IfOk result (λ conflict.
-        (root : Demands) (notes : Notes D.NameId D.SolvableId) → notes.kinds ≡ kinds.now → IsEncoding (D.universe provider.now) root notes →
-        IsCore notes.table core.now → Explains (D.universe provider.now) root (rules_in conflict)) }
+    ensures explained { IfOk result (λ conflict. ExplainsCore (D.universe provider.now) kinds.now core.now (rules_in conflict)) }
     ensures refusal { IfErr result (IsInterruption (D.may_cancel provider.now)) }
 {
     let stated = rules_of_clauses(alloc, provider, cache, kinds, core)?;
@@ -163,14 +155,10 @@ impl<D: DependencyProvider> Solver<D> {
         requires sound { IsSound (D.universe (provider_in self.old)) self.old }
         requires within { All (λ n. n < length (notes_of (rounds_in self.old)).kinds) core.now }
         ensures sound { IsSound (D.universe (provider_in self.new)) self.new }
-        ensures provider { provider_in self.new ≡ provider_in self.old }
-        ensures limits { KeepsLimits self.old self.new }
-        ensures activity { KeepsActivity self.old self.new }
-        ensures rounds { rounds_in self.new ≡ rounds_in self.old }
+        ensures keeps { IsSameSolver self.old self.new }
         ensures exempt { exempt_in self.new ≡ exempt_in self.old }
-        ensures refusal { (root : Demands) → IsEncoding (D.universe (provider_in self.old)) root (notes_of (rounds_in self.old)) →
-            IsCore (notes_of (rounds_in self.old)).table core.now →
-            IsRefusal (D.universe (provider_in self.old)) (D.may_cancel (provider_in self.old)) root ⊥ result }
+        ensures refusal { RefusesCore
+            (D.universe (provider_in self.old)) (D.may_cancel (provider_in self.old)) (notes_of (rounds_in self.old)) core.now result }
     {
         let kinds = self.rounds.encoding.kinds();
         match explain(self.alloc, &self.provider, &mut self.cache, kinds, core) {
@@ -185,10 +173,7 @@ impl<D: DependencyProvider> Solver<D> {
         requires sound { IsSound (D.universe (provider_in self.old)) self.old }
         requires none { exempt_in self.old ≡ [] }
         ensures sound { IsSound (D.universe (provider_in self.new)) self.new }
-        ensures provider { provider_in self.new ≡ provider_in self.old }
-        ensures limits { KeepsLimits self.old self.new }
-        ensures activity { KeepsActivity self.old self.new }
-        ensures rounds { rounds_in self.new ≡ rounds_in self.old }
+        ensures keeps { IsSameSolver self.old self.new }
         ensures chosen { IfOk result (λ chosen. chosen.items ≡ chosen_of (rounds_in self.old)) }
         ensures exempt { OnOk result (exempt_in self.new ≡ (notes_of (rounds_in self.old)).exempt) }
         ensures none { OnErr result (exempt_in self.new ≡ []) }
@@ -217,20 +202,13 @@ impl<D: DependencyProvider> Solver<D> {
         requires table { OnOk found (length (notes_of (rounds_in self.old)).table ≡ length (notes_of (rounds_in self.old)).kinds) }
         requires stop { IfErr found (IsStop (D.may_cancel (provider_in self.old)) (IsStuck (rounds_in self.old))) }
         ensures sound { IsSound (D.universe (provider_in self.new)) self.new }
-        ensures provider { provider_in self.new ≡ provider_in self.old }
-        ensures limits { KeepsLimits self.old self.new }
-        ensures activity { KeepsActivity self.old self.new }
-        ensures rounds { rounds_in self.new ≡ rounds_in self.old }
+        ensures keeps { IsSameSolver self.old self.new }
         ensures none { OnErr result (exempt_in self.new ≡ []) }
         ensures found { OnOk result (found ≡ Ok FoundAnswer) }
         ensures answer { IfOk result (λ chosen.
-            (root : Demands) (soft : List (SoftRequirementOf D.SolvableId)) →
-            IfOk found (IsDone (D.universe (provider_in self.old)) root soft (rounds_in self.old)) →
-            IsSoftAnswer (D.universe (provider_in self.old)) root soft chosen.items (exempt_in self.new)) }
-        ensures refusal { IfErr result (λ e.
-            (root : Demands) (soft : List (SoftRequirementOf D.SolvableId)) →
-            IfOk found (IsDone (D.universe (provider_in self.old)) root soft (rounds_in self.old)) →
-            IsRefusal (D.universe (provider_in self.old)) (D.may_cancel (provider_in self.old)) root (IsStuck (rounds_in self.old)) e) }
+            AnswersFound (D.universe (provider_in self.old)) (rounds_in self.old) found chosen.items (exempt_in self.new)) }
+        ensures refusal { IfErr result
+            (RefusesFound (D.universe (provider_in self.old)) (D.may_cancel (provider_in self.old)) (rounds_in self.old) found) }
     {
         match found {
             Err(Interrupted::Cancelled(value)) => Err(UnsolvableOrCancelled::Cancelled(value)),
@@ -261,9 +239,7 @@ impl<D: DependencyProvider> Solver<D> {
         ensures limits { KeepsLimits self.old self.new }
         ensures activity { KeepsActivity self.old self.new }
         ensures answer { IfOk result (λ chosen.
-            (soft : List D.SolvableId) × AreItems S.next_gives (soft_in problem) soft ×
-            IsSoftAnswer (D.universe (provider_in self.old)) (demands_in problem) (map SoftSolvable soft ++ list_in problem) chosen.items
-            (exempt_in self.new)) }
+            IsAnswerTo (D.universe (provider_in self.old)) S.next_gives problem chosen.items (exempt_in self.new)) }
         ensures none { OnErr result (exempt_in self.new ≡ []) }
         ensures refusal { IfErr result
             (IsRefusal (D.universe (provider_in self.old)) (D.may_cancel (provider_in self.old)) (demands_in problem) (IsAtLimit self.new)) }
@@ -278,14 +254,9 @@ impl<D: DependencyProvider> Solver<D> {
         );
         drop(replace(&mut self.rounds, rounds));
         let soft = problem.soft_requirements.take();
-        let found = self.rounds.find(
-            &self.provider,
-            &mut self.cache,
-            problem.root_requirements(),
-            problem.root_constraints(),
-            soft,
-            problem.listed_soft_requirements(),
-        );
+        let found = self
+            .rounds
+            .find(&self.provider, &mut self.cache, &problem, soft);
         let answer = self.outcome(found);
         answer
     }

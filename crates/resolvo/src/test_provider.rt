@@ -3,17 +3,13 @@
 //! Package n has the solvables 10 n + 1 and 10 n + 4, the later one preferred. Version set 10 n + k has 10 n + k, and
 //! with k = 0 both. Package 7 is locked to 71, package 8 excludes 84, and the dependencies of 94 are unknown. Packages
 //! 10 to 19 hint that the dependencies of all their solvables are cheap. A condition below 1000 is a version set, and
-//! 1000 n + k joins the conditions n and k: by "and" if n ends in 4, otherwise by "or". An endless provider has
-//! packages as far as the ids go, and there 10 n + 1 requires version set 10 (n + 1).
+//! 1000 n + k joins the conditions n and k: by "and" if n ends in 4, otherwise by "or".
 
-ghost use Rattle.std.specs.Prelude.{◌≡◌, ◌++◌, ℕ, IfErr, IfOk, OnOk, refl};
+ghost use Rattle.std.specs.Prelude.{◌≡◌, IfErr, IfOk, refl};
+ghost use Rattle.resolver_clause_store.specs.Laws.{numbers_are_values};
 ghost use Rattle.resolver_clause_store.specs.Universe.{hint_of as hint_in};
 ghost use Rattle.resolvo.specs.TestProvider.{
   hint_by,
-  next_of,
-  numbers_are_values,
-  package_count as package_count_in,
-  required_by as required_in,
   stated_by as stated_in,
   takes as takes_in,
   test_ids_lawful,
@@ -40,8 +36,6 @@ pub struct TestProvider {
     pub cancelling: Cell<u32>,
     /// The digits name the packages that were asked for their candidates, in order.
     pub log: Cell<u32>,
-    /// Whether there is a package for every id, with each older solvable requiring the next one.
-    pub endless: bool,
 }
 
 impl TestProvider {
@@ -49,13 +43,6 @@ impl TestProvider {
         self.log
             .set(self.log.get().wrapping_mul(10).wrapping_add(name));
     }
-}
-
-/// Returns the number of packages.
-fn package_count(endless: bool) -> u32
-    ensures { result ≡ package_count_in endless }
-{
-    if endless { 429_496_729 } else { 100 }
 }
 
 /// Returns the hint of a package about the dependencies of its solvables.
@@ -86,42 +73,6 @@ fn stated_by<T: Copy + Drop>(
     Ok(stated)
 }
 
-/// Appends the requirement of an older solvable on the next package.
-fn push_next(required: &mut Vec<ConditionalRequirement>, solvable: u32) -> Result<(), Exhausted>
-    ensures value { OnOk result (required.new.items ≡ required.old.items ++ next_of solvable) }
-    ensures memory { IfErr result (λ e. e ≡ Exhausted.Memory) }
-{
-    if solvable % 10 != 1 {
-        return Ok(());
-    }
-    if solvable / 10 >= 429_496_728 {
-        return Ok(());
-    }
-    required.push(ConditionalRequirement {
-        condition: None,
-        requirement: Requirement::Single(VersionSetId(10 * (solvable / 10 + 1))),
-    })?;
-    Ok(())
-}
-
-/// Returns the requirements of a solvable.
-fn required_by(
-    alloc: Global,
-    endless: bool,
-    requirements: &[(u32, ConditionalRequirement)],
-    solvable: u32,
-) -> Result<Vec<ConditionalRequirement>, Exhausted>
-    ensures value { IfOk result (λ required. required.items ≡ required_in endless requirements.now solvable) }
-    ensures memory { IfErr result (λ e. e ≡ Exhausted.Memory) }
-{
-    let mut required = stated_by(alloc, requirements, solvable)?;
-    if !endless {
-        return Ok(required);
-    }
-    push_next(&mut required, solvable)?;
-    Ok(required)
-}
-
 /// Returns whether a solvable of its package is in a version set.
 fn takes(version_set: VersionSetId, solvable: u32) -> bool
     ensures { result ≡ takes_in version_set solvable }
@@ -137,9 +88,9 @@ impl Interner for TestProvider {
 
     type SolvableId = u32;
 
-    ghost universe = { λ it. test_universe it.endless it.requirements.items it.constraints.items };
+    ghost universe = { λ it. test_universe it.requirements.items it.constraints.items };
 
-    ghost lawful_ids = { λ it. test_ids_lawful it.endless it.requirements.items it.constraints.items };
+    ghost lawful_ids = { λ it. test_ids_lawful it.requirements.items it.constraints.items };
 
     ghost names_are_values = { numbers_are_values };
 
@@ -201,11 +152,11 @@ impl DependencyProvider for TestProvider {
 
     ghost may_cancel = { λ _ value. value ≡ 7 };
 
-    ghost lawful_packages = { λ it. test_packages_lawful it.endless it.requirements.items it.constraints.items };
+    ghost lawful_packages = { λ it. test_packages_lawful it.requirements.items it.constraints.items };
 
     fn get_candidates(&self, name: u32) -> Result<Option<Candidates<u32>>, Exhausted> {
         self.note(name);
-        if name >= package_count(self.endless) {
+        if name >= 100 {
             return Ok(None);
         }
         let first = 10 * name + 1;
@@ -227,7 +178,7 @@ impl DependencyProvider for TestProvider {
         if solvable == 94 {
             return Ok(Dependencies::Unknown(StringId(6)));
         }
-        let requirements = required_by(self.alloc, self.endless, &self.requirements, solvable)?;
+        let requirements = stated_by(self.alloc, &self.requirements, solvable)?;
         let constrains = stated_by(self.alloc, &self.constraints, solvable)?;
         Ok(Dependencies::Known(KnownDependencies {
             requirements,

@@ -7,7 +7,7 @@ ghost use Rattle.resolve.specs.Listings.{no_versions};
 ghost use Rattle.resolve.specs.Packages.{ArePackagesOf, IsConstrained, IsDeclarationRefused, IsDeclared, IsExcluded, IsExclusionRefused, IsFavorRefused};
 ghost use Rattle.resolve.specs.Packages.{IsFavored, IsLockRefused, IsLocked, IsMadeUnknown, IsReasonRefused, IsRequired, IsVersionOf};
 ghost use Rattle.resolve.specs.Packages.{IsWithoutPackage, name_at, version_at, preference};
-ghost use Rattle.resolve.specs.Sorting.{sorted_by};
+ghost use Rattle.resolver_clause_store.specs.Sorting.{sorted_by};
 ghost use Rattle.resolve.specs.Conditions.{ArePartsLower, IsJoined, IsPartMissing, condition_at};
 
 use super::packages::Packages;

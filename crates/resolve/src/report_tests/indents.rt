@@ -29,20 +29,15 @@ fn levels_one_after_the_other(rt: HostRuntime) -> Result<(), Fail> {
     Ok(())
 }
 
-/// What is missing has no indent at the top, and no level for the top below it.
+/// Without an indent at the top, the last of one line has none, and the last of one below it has a single level.
 #[test]
 fn no_indent_at_the_top(rt: HostRuntime) -> Result<(), Fail> {
     let rows = [
         required_in(By::Root, 0, &[1]),
-        required_in(By::Root, 2, &[2]),
         required_in(By::Solvable(1), 7, &[]),
-        required_in(By::Solvable(2), 7, &[]),
     ];
     let text = "a * cannot be installed because there are no viable options:
 └─ a 2 would require
-   └─ x *, for which no candidates were found.
-b * cannot be installed because there are no viable options:
-└─ b 1 would require
    └─ x *, for which no candidates were found.
 ";
     expect_message(&rt, rt.alloc(), &rows, text)?;

@@ -65,26 +65,6 @@ fn is_graph<'x>(
 }
 
 #[test]
-fn constraint_on_itself(rt: HostRuntime) -> Result<(), Fail> {
-    let rows = [
-        required(By::Root, &[1]),
-        Row::Constrains {
-            by: By::Solvable(1),
-            version_set: 7,
-            candidate: 1,
-        },
-    ];
-    let constrains = ConflictEdge::Conflict(ConflictCause::Constrains(VersionSetId(7)));
-    let nodes = [ConflictNode::Root, ConflictNode::Solvable(1)];
-    let edges = [
-        edge(0, 1, ConflictEdge::Requires(WANTED)),
-        edge(1, 1, constrains),
-    ];
-    assert!(rt; is_graph(rt.alloc(), &rows, &nodes, &edges, None)?);
-    Ok(())
-}
-
-#[test]
 fn no_candidates(rt: HostRuntime) -> Result<(), Fail> {
     let rows = [required(By::Root, &[])];
     let nodes = [ConflictNode::Root, ConflictNode::UnresolvedDependency];

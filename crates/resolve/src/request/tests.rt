@@ -2,6 +2,7 @@
 
 mod counts;
 mod graphs;
+mod growths;
 mod hinted;
 mod interruptions;
 mod random_problems;
@@ -10,4 +11,5 @@ mod rules;
 mod sets;
 mod soft;
 mod solving;
+mod texts;
 mod wrapped;

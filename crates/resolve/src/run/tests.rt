@@ -5,6 +5,7 @@ mod examples;
 mod failing;
 mod known_words;
 mod statements;
+mod without_scores;
 
 use super::{fault_text, run};
 use resolver_clause_store::Exhausted;
@@ -299,11 +300,10 @@ fn two_versions_of_a_shared_dependency(rt: HostRuntime) {
 
 #[test]
 fn a_condition_that_holds_asks_for_its_requirement(rt: HostRuntime) {
-    let packages =
-        "package p=1\npackage c=1\npackage e=1\npackage x=1\nrequires p=1 x if c or e\nrequire p\n";
+    let packages = "package p=1\npackage c=1\npackage x=1\nrequires p=1 x if c or e\nrequire p\n";
     expect_answer(&rt, rt.alloc(), packages, "p=1\n");
     let with_c =
-        "package p=1\npackage c=1\npackage e=1\npackage x=1\nrequires p=1 x if c or e\nrequire p\nrequire c\n";
+        "package p=1\npackage c=1\npackage x=1\nrequires p=1 x if c or e\nrequire p\nrequire c\n";
     expect_answer(&rt, rt.alloc(), with_c, "c=1\np=1\nx=1\n");
     let both =
         "package p=1\npackage c=1\npackage e=1\npackage x=1\nrequires p=1 x if c and ( e or c )\nrequire p\nrequire c\n";
@@ -363,49 +363,23 @@ fn the_first_bad_statement_is_reported_with_its_line(rt: HostRuntime) {
     );
 }
 
+/// Checks that an input has this bad line.
+fn expect_bad_line(rt: &HostRuntime, input: &str, told: &str) {
+    expect_run(rt, rt.alloc(), input, "", told, 2);
+}
+
 #[test]
 fn a_statement_may_not_stand_twice(rt: HostRuntime) {
-    let second = "resolve: line 3: bad statement\n";
-    expect_run(
-        &rt,
-        rt.alloc(),
-        "package a=1\nunknown a=1 x\nunknown a=1 x\n",
-        "",
-        second,
-        2,
-    );
-    expect_run(
-        &rt,
-        rt.alloc(),
-        "package a=1\nexclude a=1 x\nexclude a=1 y\n",
-        "",
-        second,
-        2,
-    );
-    expect_run(
-        &rt,
-        rt.alloc(),
-        "package a=1\nfavor a=1\nfavor a=1\n",
-        "",
-        second,
-        2,
-    );
-    expect_run(
-        &rt,
-        rt.alloc(),
-        "package a=1\nlock a=1\nlock a=1\n",
-        "",
-        second,
-        2,
-    );
+    let third = "resolve: line 3: bad statement\n";
+    expect_bad_line(&rt, "package a=1\nunknown a=1 x\nunknown a=1 x\n", third);
+    expect_bad_line(&rt, "package a=1\nexclude a=1 x\nexclude a=1 y\n", third);
+    expect_bad_line(&rt, "package a=1\nfavor a=1\nfavor a=1\n", third);
+    expect_bad_line(&rt, "package a=1\nlock a=1\nlock a=1\n", third);
     let fourth = "resolve: line 4: bad statement\n";
-    expect_run(
+    expect_bad_line(
         &rt,
-        rt.alloc(),
         "package a=1\npackage a=2\nlock a=1\nlock a=2\n",
-        "",
         fourth,
-        2,
     );
 }
 

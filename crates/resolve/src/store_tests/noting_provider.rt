@@ -4,8 +4,8 @@
 //! k.
 
 ghost use Rattle.std.specs.Prelude.{◌≡◌, refl};
+ghost use Rattle.resolver_clause_store.specs.Laws.{numbers_are_values};
 ghost use Rattle.resolve.specs.NotingProvider.{
-  numbers_are_values,
   takes,
   test_ids_lawful,
   test_packages_lawful,

@@ -4,17 +4,14 @@ use resolver_clause_store::{Literal, Reason, Slot, Trail, Variable};
 use std::alloc::AllocError;
 use std::test::Fail;
 
-fn literal(number: u32, positive: bool) -> Literal {
-    Literal {
-        variable: Variable::new(number),
-        positive,
-    }
+fn literal(number: u16, positive: bool) -> Literal {
+    Literal::new(Variable::new(u32::from(number)), positive)
 }
 
 /// Forces a literal, if its variable has no value.
 fn force(trail: &mut Trail, literal: Literal) -> Result<bool, AllocError> {
-    if literal.variable.index() >= trail.variable_count()
-        || trail.slot(literal.variable).is_some()
+    if literal.variable().index() >= trail.variable_count()
+        || trail.slot(literal.variable()).is_some()
     {
         return Ok(false);
     }
@@ -23,15 +20,12 @@ fn force(trail: &mut Trail, literal: Literal) -> Result<bool, AllocError> {
 }
 
 /// Makes a variable true, if it has no value.
-fn put(trail: &mut Trail, number: u32, decided: bool) -> Result<bool, AllocError> {
-    let variable = Variable::new(number);
+fn put(trail: &mut Trail, number: u16, decided: bool) -> Result<bool, AllocError> {
+    let variable = Variable::new(u32::from(number));
     if variable.index() >= trail.variable_count() || trail.slot(variable).is_some() {
         return Ok(false);
     }
-    let literal = Literal {
-        variable,
-        positive: true,
-    };
+    let literal = Literal::new(variable, true);
     if decided {
         trail.decide(literal, 8)?;
         return Ok(true);
@@ -41,14 +35,14 @@ fn put(trail: &mut Trail, number: u32, decided: bool) -> Result<bool, AllocError
 }
 
 fn value(trail: &Trail, literal: Literal) -> Option<bool> {
-    if literal.variable.index() < trail.variable_count() {
+    if literal.variable().index() < trail.variable_count() {
         return trail.value(literal);
     }
     None
 }
 
-fn slot(trail: &Trail, number: u32) -> Option<Slot> {
-    let variable = Variable::new(number);
+fn slot(trail: &Trail, number: u16) -> Option<Slot> {
+    let variable = Variable::new(u32::from(number));
     if variable.index() < trail.variable_count() {
         return trail.slot(variable);
     }
@@ -78,7 +72,7 @@ fn a_forced_literal_has_a_value_and_a_slot(rt: HostRuntime) -> Result<(), Fail> 
 #[test]
 fn undoing_keeps_the_level_and_the_lower_ones(rt: HostRuntime) -> Result<(), Fail> {
     let mut trail = Trail::new(rt.alloc(), 6)?;
-    for number in 0..6u32 {
+    for number in 0..6u16 {
         let decided = number == 1 || number == 3 || number == 4;
         assert!(rt; put(&mut trail, number, decided)?);
     }

@@ -1,15 +1,16 @@
 //! Registration of candidates, and their codes.
 
-ghost use Rattle.std.specs.Prelude.{◌≡◌, ◌⊎◌, ◌<◌, ◌≤◌, ◌^◌, ℕ, All, Contains, IfErr, OnOk, Some, false, slice_get, ⊤};
+ghost use Rattle.std.specs.Prelude.{◌≡◌, ◌⊎◌, ◌<◌, ◌≤◌, ◌^◌, ℕ, All, Contains, IfErr, OnOk, ⊤};
 ghost use Rattle.resolver_clause_store.specs.Laws.{IsIdentity};
 ghost use Rattle.resolver_clause_store.specs.Variables.{IsFull as AreFull, limit_in, origins_in};
 ghost use Rattle.resolver_clause_store.specs.declared.ClauseKind.TheVariants.{HasBit as HasBitKind};
 ghost use Rattle.resolver_clause_store.specs.declared.Origin.TheVariants.{Solvable};
 ghost use Rattle.resolver_encoding.specs.Called.{IsSeeing, IsSeeingEach};
 ghost use Rattle.resolver_encoding.specs.Codes.{bit};
-ghost use Rattle.resolver_encoding.specs.Encodings.{Grows, IsAskStep, IsFull, IsStepWhile, coding_for};
+ghost use Rattle.resolver_encoding.specs.Encodings.{Grows, IsFull, IsStepWhile, coding_for};
 ghost use Rattle.resolver_encoding.specs.Groups.{AreGroups, IsAt};
 ghost use Rattle.resolver_encoding.specs.Refusals.{IsShortage};
+ghost use Rattle.resolver_encoding.specs.Steps.{CallsOnly, HasBegun};
 
 use super::Encoding;
 use crate::codes::{digit_count, has_digit, new_digit};
@@ -39,39 +40,6 @@ fn make_variables<N: Copy + Eq + Hash + Drop, S: Copy + Eq + Hash + Drop>(
 impl<N: Copy + Eq + Hash + Drop, S: Copy + Eq + Hash + Drop> Encoding<N, S> {
     ghost use Rattle.resolver_encoding.specs.Notes.{KeepsRoom, notes_in};
 
-    /// Adds a clause for each of these solvables: the new digit of its code is not set.
-    fn open_digit<D: DependencyProvider<NameId = N, SolvableId = S>>(
-        &mut self,
-        provider: &D,
-        name: N,
-        number: usize,
-        solvable: S,
-        index: u32,
-        earlier: &[S],
-    ) -> Result<(), Exhausted>
-        requires number { number ≡ 2 ^ index }
-        requires below { AreGroups (notes_in self.old).groups → (k : ℕ) (t : S) → IsAt (notes_in self.old).groups name k t → k < number }
-        requires earlier { (k : ℕ) (t : S) → slice_get earlier.now k ≡ Some t → IsAt (notes_in self.old).groups name k t }
-        ensures room { KeepsRoom self.old self.new }
-        ensures step { OnOk result (IsStepWhile (D.universe provider.now) (coding_for name number solvable) (λ root. ⊤) (notes_in self.old)
-            (notes_in self.new)) }
-        ensures begun { OnOk result (All (λ t. Contains (notes_in self.new).kinds (HasBitKind name t index false)) earlier.now) }
-        ensures groups { OnOk result ((notes_in self.new).groups ≡ (notes_in self.old).groups) }
-        ensures seen { OnOk result ((notes_in self.new).seen ≡ (notes_in self.old).seen) }
-        ensures requirements { OnOk result ((notes_in self.new).requirements ≡ (notes_in self.old).requirements) }
-        ensures refusal { IfErr result (IsShortage (IsFull (notes_in self.new))) }
-    {
-        for other in earlier {
-            self.add(ClauseKind::HasBit {
-                name,
-                instance: *other,
-                index,
-                value: false,
-            })?;
-        }
-        Ok(())
-    }
-
     /// Adds a new digit to the codes of the solvables under a name, if the number is the first one that has it.
     fn begin_digit<D: DependencyProvider<NameId = N, SolvableId = S>>(
         &mut self,
@@ -84,21 +52,24 @@ impl<N: Copy + Eq + Hash + Drop, S: Copy + Eq + Hash + Drop> Encoding<N, S> {
         ensures room { KeepsRoom self.old self.new }
         ensures step { OnOk result (IsStepWhile (D.universe provider.now) (coding_for name number solvable) (λ root. ⊤) (notes_in self.old)
             (notes_in self.new)) }
-        ensures begun { OnOk result ((i : ℕ) → number ≡ 2 ^ i → AreGroups (notes_in self.old).groups → (k : ℕ) (t : S) →
-            IsAt (notes_in self.old).groups name k t → Contains (notes_in self.new).kinds (HasBitKind name t i (bit k i))) }
+        ensures begun { OnOk result (HasBegun name number (notes_in self.old) (notes_in self.new)) }
         ensures groups { OnOk result ((notes_in self.new).groups ≡ (notes_in self.old).groups) }
-        ensures seen { OnOk result ((notes_in self.new).seen ≡ (notes_in self.old).seen) }
         ensures requirements { OnOk result ((notes_in self.new).requirements ≡ (notes_in self.old).requirements) }
         ensures refusal { IfErr result (IsShortage (IsFull (notes_in self.new))) }
     {
-        match new_digit(number) {
-            Some(index) => {
-                let earlier = Vec::from_slice(self.alloc, self.groups.named(name))?;
-                self.open_digit(provider, name, number, solvable, index, &earlier)?;
-                Ok(())
-            }
-            None => Ok(()),
+        let Some(index) = new_digit(number) else {
+            return Ok(());
+        };
+        let earlier = Vec::from_slice(self.alloc, self.groups.named(name))?;
+        for other in &earlier {
+            self.add(ClauseKind::HasBit {
+                name,
+                instance: *other,
+                index,
+                value: false,
+            })?;
         }
+        Ok(())
     }
 
     /// Adds the clauses of a solvable's code, which is its number in binary.
@@ -115,7 +86,6 @@ impl<N: Copy + Eq + Hash + Drop, S: Copy + Eq + Hash + Drop> Encoding<N, S> {
             (notes_in self.new)) }
         ensures code { OnOk result ((i : ℕ) → 2 ^ i ≤ number → Contains (notes_in self.new).kinds (HasBitKind name solvable i (bit number i))) }
         ensures groups { OnOk result ((notes_in self.new).groups ≡ (notes_in self.old).groups) }
-        ensures seen { OnOk result ((notes_in self.new).seen ≡ (notes_in self.old).seen) }
         ensures requirements { OnOk result ((notes_in self.new).requirements ≡ (notes_in self.old).requirements) }
         ensures refusal { IfErr result (IsShortage (IsFull (notes_in self.new))) }
     {
@@ -139,7 +109,7 @@ impl<N: Copy + Eq + Hash + Drop, S: Copy + Eq + Hash + Drop> Encoding<N, S> {
     ) -> Result<(), Exhausted>
         requires absent { Contains (notes_in self.old).seen solvable → ⊥ }
         ensures room { KeepsRoom self.old self.new }
-        ensures step { OnOk result (IsAskStep (D.universe provider.now) (IsSeeing solvable) (λ root. ⊤) (notes_in self.old) (notes_in self.new)) }
+        ensures step { OnOk result (CallsOnly (D.universe provider.now) (IsSeeing solvable) (notes_in self.old) (notes_in self.new)) }
         ensures seen { OnOk result (Contains (notes_in self.new).seen solvable) }
         ensures asked { OnOk result ((notes_in self.new).asked ≡ (notes_in self.old).asked) }
         ensures only { OnOk result ((t : S) → Contains (notes_in self.new).seen t → Contains (notes_in self.old).seen t ⊎ (t ≡ solvable)) }
@@ -163,7 +133,7 @@ impl<N: Copy + Eq + Hash + Drop, S: Copy + Eq + Hash + Drop> Encoding<N, S> {
         solvable: S,
     ) -> Result<(), Exhausted>
         ensures room { KeepsRoom self.old self.new }
-        ensures step { OnOk result (IsAskStep (D.universe provider.now) (IsSeeing solvable) (λ root. ⊤) (notes_in self.old) (notes_in self.new)) }
+        ensures step { OnOk result (CallsOnly (D.universe provider.now) (IsSeeing solvable) (notes_in self.old) (notes_in self.new)) }
         ensures seen { OnOk result (Contains (notes_in self.new).seen solvable) }
         ensures asked { OnOk result ((notes_in self.new).asked ≡ (notes_in self.old).asked) }
         ensures only { OnOk result ((t : S) → Contains (notes_in self.new).seen t → Contains (notes_in self.old).seen t ⊎ (t ≡ solvable)) }
@@ -184,7 +154,7 @@ impl<N: Copy + Eq + Hash + Drop, S: Copy + Eq + Hash + Drop> Encoding<N, S> {
         candidates: &[S],
     ) -> Result<(), Exhausted>
         ensures room { KeepsRoom self.old self.new }
-        ensures step { OnOk result (IsAskStep (D.universe provider.now) (IsSeeingEach candidates.now) (λ root. ⊤) (notes_in self.old) (notes_in self.new)) }
+        ensures step { OnOk result (CallsOnly (D.universe provider.now) (IsSeeingEach candidates.now) (notes_in self.old) (notes_in self.new)) }
         ensures seen { OnOk result (All (Contains (notes_in self.new).seen) candidates.now) }
         ensures refusal { IfErr result (IsShortage (IsFull (notes_in self.new))) }
     {

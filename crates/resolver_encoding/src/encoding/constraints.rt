@@ -7,9 +7,9 @@ ghost use Rattle.resolver_clause_store.specs.Laws.{IsIdentity};
 ghost use Rattle.resolver_clause_store.specs.declared.By.TheVariants.{Solvable as BySolvable};
 ghost use Rattle.resolver_clause_store.specs.declared.ClauseKind.TheVariants.{Constrains as ConstrainsKind, ConstrainsExcluded as ExcludedKind};
 ghost use Rattle.resolver_clause_store.specs.declared.ClauseKind.TheVariants.{ConstrainsParent as ParentKind};
-ghost use Rattle.resolver_encoding.specs.Called.{IsAsking};
-ghost use Rattle.resolver_encoding.specs.Encodings.{HasConstraint, IsAskStep, IsConstraintRead, IsEncodingOf, IsFull, IsStep};
+ghost use Rattle.resolver_encoding.specs.Encodings.{HasConstraint, IsConstraintRead, IsEncodingOf, IsFull, IsStep};
 ghost use Rattle.resolver_encoding.specs.Refusals.{IsShortage, IsStop};
+ghost use Rattle.resolver_encoding.specs.Steps.{IsConstraintStep};
 
 use super::Encoding;
 use resolver_clause_store::{
@@ -36,8 +36,8 @@ fn own_parent<D: DependencyProvider>(
     version_set: VersionSetId,
 ) -> Option<D::SolvableId>
     ensures is { IfSome result (λ s. by ≡ BySolvable s) }
-    ensures none { IfNone result ((s : D.SolvableId) → by ≡ BySolvable s →
-        (D.universe provider.now).name s ≡ (D.universe provider.now).version_set_name version_set → ⊥) }
+    ensures none { let u = D.universe provider.now in
+        IfNone result ((s : D.SolvableId) → by ≡ BySolvable s → u.name s ≡ u.version_set_name version_set → ⊥) }
 {
     match by {
         By::Root => None,
@@ -225,8 +225,7 @@ impl<N: Copy + Eq + Hash + Drop, S: Copy + Eq + Hash + Drop> Encoding<N, S> {
         requires encoding { IsEncodingOf (D.universe provider.now) (HasConstraint (D.universe provider.now) by version_set) (notes_in self.old) }
         ensures room { KeepsRoom self.old self.new }
         ensures is_true { IsTrueCache (D.universe provider.now) cache.new }
-        ensures step { OnOk result (IsAskStep (D.universe provider.now) (IsAsking ((D.universe provider.now).version_set_name version_set))
-            (HasConstraint (D.universe provider.now) by version_set) (notes_in self.old) (notes_in self.new)) }
+        ensures step { OnOk result (IsConstraintStep (D.universe provider.now) by version_set (notes_in self.old) (notes_in self.new)) }
         ensures read { OnOk result (IsConstraintRead (D.universe provider.now) (notes_in self.new).kinds by version_set) }
         ensures asked { OnOk result (Contains (notes_in self.new).asked ((D.universe provider.now).version_set_name version_set)) }
         ensures refusal { IfErr result (IsStop (D.may_cancel provider.now) (IsFull (notes_in self.new))) }

@@ -1,19 +1,19 @@
 //! Deferred disjuncts, and the clauses that they get once they are met.
 
-ghost use Rattle.std.specs.Prelude.{◌≡◌, IfErr, IfSome, IfNone, OnErr, OnOk, Some, slice_get, ◌≤◌, All, IfOk, MatchBool, drop, length, true, ⊤};
+ghost use Rattle.std.specs.Prelude.{◌≡◌, IfErr, IfSome, IfNone, OnErr, OnOk, Some, slice_get, ◌≤◌, All, IfOk, length, true, ⊤};
 ghost use Rattle.resolver_clause_store.specs.Variables.{AreDistinct};
 ghost use Rattle.resolver_encoding.specs.Encodings.{IsEncodingOf, IsFull};
 ghost use Rattle.resolver_encoding.specs.ReadState.{Deferred};
-ghost use Rattle.resolver_encoding.specs.SoFar.{IsDeferral, IsIndexing, IsTakenOut, left_count, HasFired, HasMet, IsFiring, IsQuietAt, IsQuietUnder};
+ghost use Rattle.resolver_encoding.specs.SoFar.{IsDeferral, IsIndexing, IsTakenOut, left_count, HasFired, HasMet, IsFiring, IsQuietAt};
 ghost use Rattle.resolver_clause_store.specs.Caches.{IsTrueCache};
-ghost use Rattle.resolver_encoding.specs.Groups.{AreGroups};
 ghost use Rattle.resolver_encoding.specs.Refusals.{IsStop};
+ghost use Rattle.resolver_encoding.specs.Steps.{IsDueIf, IsQuietFor, IsQuietFrom};
 
 use super::Encoding;
 use crate::disjuncts::{Entry, is_met};
 use indexmap::IndexSet;
 use resolver_clause_store::{
-    By, Cache, DependencyProvider, Exhausted, Interner, Interrupted, Requirement, VersionSetId,
+    Cache, DependencyProvider, Exhausted, Interner, Interrupted, VersionSetId,
 };
 use std::hash::Hash;
 
@@ -44,26 +44,18 @@ impl<N: Copy + Eq + Hash + Drop, S: Copy + Eq + Hash + Drop> Encoding<N, S> {
     pub(super) fn defer<D: DependencyProvider<NameId = N, SolvableId = S>>(
         &mut self,
         provider: &D,
-        by: By<S>,
-        disjunct: Vec<VersionSetId>,
-        requirement: Requirement,
+        entry: Entry<S>,
     ) -> Result<(), Exhausted>
-        requires once { AreDistinct disjunct.items }
+        requires once { AreDistinct entry.disjunct.items }
         ensures room { KeepsRoom self.old self.new }
-        ensures deferred { OnOk result
-            (IsDeferral (D.universe provider.now) (record { by = by; disjunct = disjunct.items; requirement = requirement }) (notes_in self.old)
-            (notes_in self.new)) }
+        ensures deferred { OnOk result (IsDeferral (D.universe provider.now) (entry_of entry) (notes_in self.old) (notes_in self.new)) }
         ensures origins { (notes_in self.new).origins ≡ (notes_in self.old).origins }
         ensures still { OnErr result ((notes_in self.new).deferred ≡ (notes_in self.old).deferred) }
         ensures memory { IfErr result (λ e. e ≡ Exhausted.Memory) }
     {
         let number = self.deferred.len();
-        self.index_each(provider, &disjunct, number)?;
-        self.deferred.push(Some(Entry {
-            by,
-            disjunct,
-            requirement,
-        }))?;
+        self.index_each(provider, &entry.disjunct, number)?;
+        self.deferred.push(Some(entry))?;
         Ok(())
     }
 
@@ -107,9 +99,7 @@ impl<N: Copy + Eq + Hash + Drop, S: Copy + Eq + Hash + Drop> Encoding<N, S> {
     ) -> Result<bool, Interrupted<D::Cancel>>
         requires is_true { IsTrueCache (D.universe provider.now) cache.old }
         ensures is_true { IsTrueCache (D.universe provider.now) cache.new }
-        ensures due { IfOk result (λ due.
-            MatchBool due (HasMet (D.universe provider.now) chosen.now.keys (notes_in self.now) number)
-            (IsQuietAt (D.universe provider.now) chosen.now.keys (notes_in self.now) number)) }
+        ensures due { IfOk result (IsDueIf (D.universe provider.now) chosen.now.keys (notes_in self.now) number) }
         ensures refusal { IfErr result (IsStop (D.may_cancel provider.now) (IsFull (notes_in self.now))) }
     {
         match self.deferred.get(number) {
@@ -142,12 +132,7 @@ impl<N: Copy + Eq + Hash + Drop, S: Copy + Eq + Hash + Drop> Encoding<N, S> {
     {
         match self.take_out(number) {
             Some(entry) => {
-                let Entry {
-                    by,
-                    disjunct,
-                    requirement,
-                } = entry;
-                self.encode_disjunct(provider, cache, by, disjunct, requirement)?;
+                self.encode_disjunct(provider, cache, entry)?;
                 Ok(())
             }
             None => Ok(()),
@@ -215,8 +200,7 @@ impl<N: Copy + Eq + Hash + Drop, S: Copy + Eq + Hash + Drop> Encoding<N, S> {
         ensures room { KeepsRoom self.old self.new }
         ensures is_true { IsTrueCache (D.universe provider.now) cache.new }
         ensures firing { OnOk result (IsFiring (D.universe provider.now) chosen.now.keys (notes_in self.old) (notes_in self.new)) }
-        ensures quiet { OnOk result (AreGroups (notes_in self.old).deferred_by_name →
-            IsQuietUnder (D.universe provider.now) chosen.now.keys (notes_in self.new) ((D.universe provider.now).name solvable)) }
+        ensures quiet { OnOk result (IsQuietFor (D.universe provider.now) chosen.now.keys solvable (notes_in self.old) (notes_in self.new)) }
         ensures fired { IfOk result (HasFired (notes_in self.old) (notes_in self.new)) }
         ensures refusal { IfErr result (IsStop (D.may_cancel provider.now) (IsFull (notes_in self.new))) }
     {
@@ -241,9 +225,7 @@ impl<N: Copy + Eq + Hash + Drop, S: Copy + Eq + Hash + Drop> Encoding<N, S> {
         ensures room { KeepsRoom self.old self.new }
         ensures is_true { IsTrueCache (D.universe provider.now) cache.new }
         ensures firing { OnOk result (IsFiring (D.universe provider.now) chosen.now.keys (notes_in self.old) (notes_in self.new)) }
-        ensures quiet { OnOk result (AreGroups (notes_in self.old).deferred_by_name →
-            All (λ s. IsQuietUnder (D.universe provider.now) chosen.now.keys (notes_in self.new) ((D.universe provider.now).name s))
-            (drop from chosen.now.keys)) }
+        ensures quiet { OnOk result (IsQuietFrom (D.universe provider.now) chosen.now.keys from (notes_in self.old) (notes_in self.new)) }
         ensures fired { IfOk result (HasFired (notes_in self.old) (notes_in self.new)) }
         ensures refusal { IfErr result (IsStop (D.may_cancel provider.now) (IsFull (notes_in self.new))) }
     {

@@ -1,11 +1,10 @@
 //! Gates: one list of candidates for all solvables that have the same requirement.
 
-ghost use Rattle.std.specs.Prelude.{◌≡◌, ◌<◌, ◌^◌, All, Contains, IfErr, None, OnOk, ⊤};
+ghost use Rattle.std.specs.Prelude.{◌≡◌, ◌<◌, ◌^◌, All, Contains, IfErr, OnOk, ⊤};
 ghost use Rattle.resolver_clause_store.specs.Candidates.{requirement_candidates as candidates_of, version_sets};
-ghost use Rattle.resolver_clause_store.specs.declared.By.TheVariants.{Solvable as BySolvable};
 ghost use Rattle.resolver_clause_store.specs.declared.ClauseKind.TheVariants.{AnyOf as AnyOfKind};
 ghost use Rattle.resolver_clause_store.specs.declared.Origin.TheVariants.{Gate as GateOrigin};
-ghost use Rattle.resolver_encoding.specs.Encodings.{HasRequirement, IsFull, IsStep};
+ghost use Rattle.resolver_encoding.specs.Encodings.{AreNamesAsked, HasPlainRequirement, IsFull, IsStep};
 ghost use Rattle.resolver_encoding.specs.Refusals.{IsShortage};
 
 use super::Encoding;
@@ -27,8 +26,7 @@ impl<N: Copy + Eq + Hash + Drop, S: Copy + Eq + Hash + Drop> Encoding<N, S> {
     ) -> Result<(), Exhausted>
         requires candidates { choices.now.candidates.items ≡ candidates_of (D.universe provider.now) requirement }
         requires small { All (λ n. n < 2 ^ 63) choices.now.counts.items }
-        requires asked { All (λ v. Contains (notes_in self.old).asked ((D.universe provider.now).version_set_name v))
-            (version_sets (D.universe provider.now) requirement) }
+        requires asked { let u = D.universe provider.now in AreNamesAsked u (notes_in self.old) (version_sets u requirement) }
         requires seen { All (Contains (notes_in self.old).seen) choices.now.candidates.items }
         ensures room { KeepsRoom self.old self.new }
         ensures step { OnOk result (IsStep (D.universe provider.now) (λ root. ⊤) (notes_in self.old) (notes_in self.new)) }
@@ -51,9 +49,8 @@ impl<N: Copy + Eq + Hash + Drop, S: Copy + Eq + Hash + Drop> Encoding<N, S> {
         requirement: Requirement,
     ) -> Result<(), Exhausted>
         ensures room { KeepsRoom self.old self.new }
-        ensures step { OnOk result (IsStep (D.universe provider.now)
-            (HasRequirement (D.universe provider.now) (BySolvable requirer) (record { condition = None; requirement = requirement })) (notes_in self.old)
-            (notes_in self.new)) }
+        ensures step { let u = D.universe provider.now in OnOk result
+            (IsStep u (HasPlainRequirement u requirer requirement) (notes_in self.old) (notes_in self.new)) }
         ensures implied { OnOk result (Contains (notes_in self.new).kinds (AnyOfKind (GateOrigin requirement) requirer)) }
         ensures refusal { IfErr result (IsShortage (IsFull (notes_in self.new))) }
     {

@@ -15,10 +15,9 @@ use super::Encoding;
 use crate::chosen::as_solvable;
 use indexmap::IndexSet;
 use resolver_clause_store::{
-    Cache, DependencyProvider, Exhausted, Interner, Interrupted, Literal, is_among,
+    Cache, DependencyProvider, Exhausted, Interner, Interrupted, Literal, clause, is_among,
 };
 use std::hash::Hash;
-use std::mem::replace;
 
 /// Appends the value that was found, if any.
 fn push_found<T: Drop>(list: &mut Vec<T>, found: Option<T>) -> Result<(), Exhausted>
@@ -79,58 +78,40 @@ impl<N: Copy + Eq + Hash + Drop, S: Copy + Eq + Hash + Drop> Encoding<N, S> {
     fn stated(&self, literal: Literal) -> Option<S>
         ensures { result ≡ stated_by (notes_in self.now).origins literal }
     {
-        if !literal.positive {
+        if !literal.is_positive() {
             return None;
         }
-        as_solvable(self.table.variables.origin(literal.variable))
+        as_solvable(self.table.variables.origin(literal.variable()))
     }
 
-    /// Lets a list have the literals of a clause in place of its own, none if there is no such clause.
-    fn read_clause(&self, number: usize, literals: &mut Vec<Literal>) -> Result<(), Exhausted>
-        ensures literals { OnOk result (literals.new.items ≡ clause_at (notes_in self.now).table number) }
-        ensures memory { IfErr result (λ e. e ≡ Exhausted.Memory) }
+    /// Returns the literals of a clause, none if there is no such clause.
+    fn literals_of(&self, number: usize) -> &[Literal]
+        ensures { result.now ≡ clause_at (notes_in self.now).table number }
     {
         let clauses = self.table.literals();
         if number >= clauses.len() {
-            literals.clear();
-            return Ok(());
+            return &[];
         }
-        clauses.read(number, literals)?;
-        Ok(())
+        clause(clauses, number)
     }
 
-    /// Lets a list have the literals of the requirement clause at a place in place of its own, none if there is no such
-    /// place.
-    fn read_asking(&self, place: usize, literals: &mut Vec<Literal>) -> Result<(), Exhausted>
-        ensures literals { OnOk result (literals.new.items ≡ literals_at (notes_in self.now) place) }
-        ensures memory { IfErr result (λ e. e ≡ Exhausted.Memory) }
+    /// Returns the literals of the requirement clause at a place, none if there is no such place.
+    fn literals_at(&self, place: usize) -> &[Literal]
+        ensures { result.now ≡ literals_at (notes_in self.now) place }
     {
         match self.table.requirements().get(place) {
-            Some(asking) => {
-                self.read_clause(asking.number as usize, literals)?;
-                Ok(())
-            }
-            None => {
-                literals.clear();
-                Ok(())
-            }
+            Some(asking) => self.literals_of(asking.number as usize),
+            None => &[],
         }
     }
 
-    /// Returns the candidates of the requirement clause at a place. They take the place of the items of `candidates`. The
-    /// items of `literals` mean nothing.
-    fn listed_candidates(
-        &self,
-        place: usize,
-        literals: &mut Vec<Literal>,
-        mut candidates: Vec<S>,
-    ) -> Result<Vec<S>, Exhausted>
+    /// Returns the candidates of the requirement clause at a place.
+    fn listed_candidates(&self, place: usize) -> Result<Vec<S>, Exhausted>
         ensures candidates { IfOk result (λ list. list.items ≡ candidates_at (notes_in self.now) place) }
         ensures memory { IfErr result (λ e. e ≡ Exhausted.Memory) }
     {
-        self.read_asking(place, literals)?;
-        candidates.clear();
-        for literal in literals.iter() {
+        let mut candidates = Vec::new(self.alloc);
+        for literal in self.literals_at(place) {
             push_found(&mut candidates, self.stated(*literal))?;
         }
         Ok(candidates)
@@ -236,15 +217,13 @@ impl<N: Copy + Eq + Hash + Drop, S: Copy + Eq + Hash + Drop> Encoding<N, S> {
         Ok(())
     }
 
-    /// Reads each candidate of the requirement clause at a place whose dependencies are available. The items of `literals`
-    /// mean nothing.
+    /// Reads each candidate of the requirement clause at a place whose dependencies are available.
     fn read_hinted_at<D: DependencyProvider<NameId = N, SolvableId = S>>(
         &mut self,
         provider: &D,
         cache: &mut Cache<N, S>,
         chosen: &IndexSet<S>,
         place: usize,
-        literals: &mut Vec<Literal>,
     ) -> Result<(), Interrupted<D::Cancel>>
         requires is_true { IsTrueCache (D.universe provider.now) cache.old }
         requires half { IsHalfReading (D.universe provider.now) (notes_in self.old) }
@@ -256,10 +235,8 @@ impl<N: Copy + Eq + Hash + Drop, S: Copy + Eq + Hash + Drop> Encoding<N, S> {
         ensures more { OnOk result (IsMoreOrSame (notes_in self.old) (notes_in self.new)) }
         ensures refusal { IfErr result (IsStop (D.may_cancel provider.now) (IsFull (notes_in self.new))) }
     {
-        let list = replace(&mut self.spare, Vec::new(self.alloc));
-        let candidates = self.listed_candidates(place, literals, list)?;
+        let candidates = self.listed_candidates(place)?;
         self.read_candidates(provider, cache, chosen, place, &candidates)?;
-        self.spare = candidates;
         Ok(())
     }
 
@@ -286,9 +263,8 @@ impl<N: Copy + Eq + Hash + Drop, S: Copy + Eq + Hash + Drop> Encoding<N, S> {
         ensures refusal { IfErr result (IsStop (D.may_cancel provider.now) (IsFull (notes_in self.new))) }
     {
         let before = self.read.len();
-        let mut literals = Vec::new(self.alloc);
         for place in from..until {
-            self.read_hinted_at(provider, cache, chosen, place, &mut literals)?;
+            self.read_hinted_at(provider, cache, chosen, place)?;
         }
         self.table.variables.are_within_limit();
         if before < self.read.len() {

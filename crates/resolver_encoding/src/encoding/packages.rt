@@ -1,12 +1,13 @@
 //! Packages that are asked, with their locks and exclusions.
 
-ghost use Rattle.std.specs.Prelude.{◌≡◌, ◌≢◌, ◌++◌, All, Contains, IfErr, OnOk, Some, ⊤};
+ghost use Rattle.std.specs.Prelude.{◌≡◌, ◌≢◌, All, Contains, IfErr, OnOk, Some, ⊤};
 ghost use Rattle.resolver_clause_store.specs.Caches.{IsTrueCache};
 ghost use Rattle.resolver_clause_store.specs.Candidates.{version_sets};
 ghost use Rattle.resolver_clause_store.specs.declared.ClauseKind.TheVariants.{Excluded as ExcludedKind, Lock as LockKind};
 ghost use Rattle.resolver_encoding.specs.Called.{IsAsking, IsNamedBy};
-ghost use Rattle.resolver_encoding.specs.Encodings.{Doing, IsAskStep, IsFull, IsLockRead, IsStepWhile, KeepsLimits, asking_for};
+ghost use Rattle.resolver_encoding.specs.Encodings.{AreNamesAsked, IsAskStep, IsFull, IsLockRead, IsStepWhile, KeepsLimits, asking_for};
 ghost use Rattle.resolver_encoding.specs.Refusals.{IsShortage, IsStop};
+ghost use Rattle.resolver_encoding.specs.Steps.{CallsOnly, HasUnlessExempt, IsPackageStep};
 ghost use Rattle.resolver_encoding.specs.Turns.{AddsPlainly, AsksOnly};
 
 use super::Encoding;
@@ -31,12 +32,10 @@ impl<N: Copy + Eq + Hash + Drop, S: Copy + Eq + Hash + Drop> Encoding<N, S> {
         requires lock { ((D.universe provider.now).package_named name).locked ≡ Some locked }
         requires listed { Contains ((D.universe provider.now).package_named name).listed candidate }
         ensures room { KeepsRoom self.old self.new }
-        ensures step { OnOk result ((doing : Doing N S) → Contains (doing.asking ++ (notes_in self.old).asked) name →
-            IsStepWhile (D.universe provider.now) doing (λ root. ⊤) (notes_in self.old) (notes_in self.new)) }
+        ensures step { OnOk result (IsPackageStep (D.universe provider.now) name (notes_in self.old) (notes_in self.new)) }
         ensures plain { OnOk result (AddsPlainly (notes_in self.old) (notes_in self.new)) }
         ensures forbidden { OnOk result
-            (candidate ≢ locked → (Contains (notes_in self.old).exempt candidate → ⊥) → Contains (notes_in self.new).kinds (LockKind locked candidate)) }
-        ensures asked { OnOk result ((notes_in self.new).asked ≡ (notes_in self.old).asked) }
+            (candidate ≢ locked → HasUnlessExempt candidate (LockKind locked candidate) (notes_in self.old) (notes_in self.new)) }
         ensures refusal { IfErr result (IsShortage (IsFull (notes_in self.new))) }
     {
         if candidate == locked {
@@ -66,7 +65,6 @@ impl<N: Copy + Eq + Hash + Drop, S: Copy + Eq + Hash + Drop> Encoding<N, S> {
         ensures step { OnOk result (IsStepWhile (D.universe provider.now) (asking_for name) (λ root. ⊤) (notes_in self.old) (notes_in self.new)) }
         ensures plain { OnOk result (AddsPlainly (notes_in self.old) (notes_in self.new)) }
         ensures read { OnOk result (IsLockRead (notes_in self.new).kinds (notes_in self.old).exempt locked listed.now) }
-        ensures asked { OnOk result ((notes_in self.new).asked ≡ (notes_in self.old).asked) }
         ensures refusal { IfErr result (IsShortage (IsFull (notes_in self.new))) }
     {
         let Some(locked) = locked else {
@@ -89,12 +87,9 @@ impl<N: Copy + Eq + Hash + Drop, S: Copy + Eq + Hash + Drop> Encoding<N, S> {
         requires named { (D.universe provider.now).name solvable ≡ name }
         requires excluded { Contains ((D.universe provider.now).package_named name).excluded (solvable, reason) }
         ensures room { KeepsRoom self.old self.new }
-        ensures step { OnOk result ((doing : Doing N S) → Contains (doing.asking ++ (notes_in self.old).asked) name →
-            IsStepWhile (D.universe provider.now) doing (λ root. ⊤) (notes_in self.old) (notes_in self.new)) }
+        ensures step { OnOk result (IsPackageStep (D.universe provider.now) name (notes_in self.old) (notes_in self.new)) }
         ensures plain { OnOk result (AddsPlainly (notes_in self.old) (notes_in self.new)) }
-        ensures forbidden { OnOk result
-            ((Contains (notes_in self.old).exempt solvable → ⊥) → Contains (notes_in self.new).kinds (ExcludedKind solvable reason)) }
-        ensures asked { OnOk result ((notes_in self.new).asked ≡ (notes_in self.old).asked) }
+        ensures forbidden { OnOk result (HasUnlessExempt solvable (ExcludedKind solvable reason) (notes_in self.old) (notes_in self.new)) }
         ensures refusal { IfErr result (IsShortage (IsFull (notes_in self.new))) }
     {
         if is_among(&self.exempt, &solvable) {
@@ -115,9 +110,7 @@ impl<N: Copy + Eq + Hash + Drop, S: Copy + Eq + Hash + Drop> Encoding<N, S> {
         ensures room { KeepsRoom self.old self.new }
         ensures step { OnOk result (IsStepWhile (D.universe provider.now) (asking_for name) (λ root. ⊤) (notes_in self.old) (notes_in self.new)) }
         ensures plain { OnOk result (AddsPlainly (notes_in self.old) (notes_in self.new)) }
-        ensures read { OnOk result (All (λ e.
-            (Contains (notes_in self.old).exempt e.0 → ⊥) → Contains (notes_in self.new).kinds (ExcludedKind e.0 e.1)) excluded.now) }
-        ensures asked { OnOk result ((notes_in self.new).asked ≡ (notes_in self.old).asked) }
+        ensures read { OnOk result (All (λ e. HasUnlessExempt e.0 (ExcludedKind e.0 e.1) (notes_in self.old) (notes_in self.new)) excluded.now) }
         ensures refusal { IfErr result (IsShortage (IsFull (notes_in self.new))) }
     {
         for (solvable, reason) in excluded {
@@ -166,9 +159,8 @@ impl<N: Copy + Eq + Hash + Drop, S: Copy + Eq + Hash + Drop> Encoding<N, S> {
         requires is_true { IsTrueCache (D.universe provider.now) cache.old }
         ensures room { KeepsRoom self.old self.new }
         ensures is_true { IsTrueCache (D.universe provider.now) cache.new }
-        ensures step { OnOk result (IsAskStep (D.universe provider.now) (IsNamedBy (D.universe provider.now) named.now) (λ root. ⊤) (notes_in self.old)
-            (notes_in self.new)) }
-        ensures asked { OnOk result (All (λ v. Contains (notes_in self.new).asked ((D.universe provider.now).version_set_name v)) named.now) }
+        ensures step { let u = D.universe provider.now in OnOk result (CallsOnly u (IsNamedBy u named.now) (notes_in self.old) (notes_in self.new)) }
+        ensures asked { OnOk result (AreNamesAsked (D.universe provider.now) (notes_in self.new) named.now) }
         ensures refusal { IfErr result (IsStop (D.may_cancel provider.now) (IsFull (notes_in self.new))) }
     {
         for version_set in named {
@@ -187,10 +179,9 @@ impl<N: Copy + Eq + Hash + Drop, S: Copy + Eq + Hash + Drop> Encoding<N, S> {
         requires is_true { IsTrueCache (D.universe provider.now) cache.old }
         ensures room { KeepsRoom self.old self.new }
         ensures is_true { IsTrueCache (D.universe provider.now) cache.new }
-        ensures step { OnOk result (IsAskStep (D.universe provider.now)
-            (IsNamedBy (D.universe provider.now) (version_sets (D.universe provider.now) requirement)) (λ root. ⊤) (notes_in self.old) (notes_in self.new)) }
-        ensures asked { OnOk result (All (λ v. Contains (notes_in self.new).asked ((D.universe provider.now).version_set_name v))
-            (version_sets (D.universe provider.now) requirement)) }
+        ensures step { let u = D.universe provider.now in OnOk result
+            (CallsOnly u (IsNamedBy u (version_sets u requirement)) (notes_in self.old) (notes_in self.new)) }
+        ensures asked { let u = D.universe provider.now in OnOk result (AreNamesAsked u (notes_in self.new) (version_sets u requirement)) }
         ensures refusal { IfErr result (IsStop (D.may_cancel provider.now) (IsFull (notes_in self.new))) }
     {
         match requirement {

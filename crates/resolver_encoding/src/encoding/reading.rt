@@ -1,24 +1,21 @@
 //! Reading: the requirements and constraints of the root and of solvables become clauses.
 
-ghost use Rattle.std.specs.Prelude.{◌≡◌, ◌<◌, ◌≤◌, [], All, Contains, IfErr, IfOk, List, OnOk, Some, drop, length, take, ⊤};
+ghost use Rattle.std.specs.Prelude.{◌≡◌, ◌<◌, ◌≤◌, [], All, Contains, IfErr, IfOk, OnOk, drop, length, take, ⊤};
 ghost use Rattle.resolver_clause_store.specs.Caches.{IsTrueCache};
-ghost use Rattle.resolver_clause_store.specs.Universe.{Demands, unknown};
-ghost use Rattle.resolver_clause_store.specs.Near.{IsNear};
-ghost use Rattle.resolver_clause_store.specs.Valid.{demands_of};
-ghost use Rattle.resolver_clause_store.specs.declared.By.TheVariants.{Solvable as BySolvable};
+ghost use Rattle.resolver_clause_store.specs.Universe.{Demands as DemandsOf, unknown};
 ghost use Rattle.resolver_clause_store.specs.declared.ClauseKind.TheVariants.{Excluded as ExcludedKind};
-ghost use Rattle.resolver_clause_store.specs.declared.ConditionalRequirement.{ConditionalRequirement};
 ghost use Rattle.resolver_clause_store.specs.declared.Origin.TheVariants.{Solvable as SolvableOrigin};
 ghost use Rattle.resolver_clause_store.specs.TrueRules.{demands_by};
-ghost use Rattle.resolver_encoding.specs.Called.{AreAsked, IsCalledByEach, IsCalledFor, IsDemanded, IsNamedBy, IsPlainlyNamed};
-ghost use Rattle.resolver_encoding.specs.Encodings.{AreDemandsRead, AreNeedsRead, HasRequirement, HasConstraint, IsAskStep, IsConstraintRead, IsEncoding};
-ghost use Rattle.resolver_encoding.specs.Encodings.{IsEncodingOf, IsFull, IsLeft, IsReadStep, IsStep, IsUnmet, IsUnread, KeepsLimits};
+ghost use Rattle.resolver_encoding.specs.Called.{IsPlainlyNamed, IsPlainlyNamedByEach};
+ghost use Rattle.resolver_encoding.specs.Encodings.{AreDemandsRead, AreNamesAsked, AreNeedsRead, HasConstraints, HasRequirements, IsConstraintRead};
+ghost use Rattle.resolver_encoding.specs.Encodings.{IsEncoding, IsEncodingOf, IsFull, IsLeft, IsStep, IsUnread, KeepsLimits};
 ghost use Rattle.resolver_encoding.specs.Hints.{AreHintsRead, IsListedFrom};
-ghost use Rattle.resolver_encoding.specs.Reach.{AreNear};
 ghost use Rattle.resolver_encoding.specs.ReadState.{IsReadRequirement};
 ghost use Rattle.resolver_encoding.specs.Refusals.{IsShortage, IsStop};
-ghost use Rattle.resolver_encoding.specs.SoFar.{HasRead, IsBare, IsHalfReading, IsMoreOrSame, IsProgress, IsReadMore, IsReadSoFar, IsReading, IsReadingOf};
-ghost use Rattle.resolver_encoding.specs.SoFar.{progress_by};
+ghost use Rattle.resolver_encoding.specs.SoFar.{HasRead, HasReadKnown, IsBare, IsHalfReading, IsMoreOrSame, IsProgress, IsReadMore, IsReadSoFar, IsReading};
+ghost use Rattle.resolver_encoding.specs.SoFar.{IsReadingOf, progress_by};
+ghost use Rattle.resolver_encoding.specs.Steps.{AreNearAny, AsksCalled, AsksOn, CallsOnly, IsConstraintsStep, IsDemandsStep};
+ghost use Rattle.resolver_encoding.specs.Steps.{IsRequirementsStep, IsSolvableStep, ReadsOn, StaysNear, demands_with};
 
 use super::Encoding;
 use crate::progress::Progress;
@@ -42,7 +39,15 @@ fn progress_of(read: bool, fired: bool) -> Progress
     Progress::Nothing
 }
 
+/// The requirements and the constraints of the root or of a solvable.
+#[derive(Clone, Copy)]
+struct Demands<'a> {
+    requirements: &'a [ConditionalRequirement],
+    constraints: &'a [VersionSetId],
+}
+
 impl<N: Copy + Eq + Hash + Drop, S: Copy + Eq + Hash + Drop> Encoding<N, S> {
+    ghost use Rattle.resolver_encoding.specs.DemandsView.{demands_in};
     ghost use Rattle.resolver_encoding.specs.Notes.{KeepsRoom, notes_in};
 
     /// Forbids a solvable whose dependencies are unknown.
@@ -72,8 +77,8 @@ impl<N: Copy + Eq + Hash + Drop, S: Copy + Eq + Hash + Drop> Encoding<N, S> {
         requires is_true { IsTrueCache (D.universe provider.now) cache.old }
         ensures room { KeepsRoom self.old self.new }
         ensures is_true { IsTrueCache (D.universe provider.now) cache.new }
-        ensures step { OnOk result (IsAskStep (D.universe provider.now) (IsPlainlyNamed (D.universe provider.now) requirement) (λ root. ⊤) (notes_in self.old)
-            (notes_in self.new)) }
+        ensures step { let u = D.universe provider.now in OnOk result
+            (CallsOnly u (IsPlainlyNamed u requirement) (notes_in self.old) (notes_in self.new)) }
         ensures refusal { IfErr result (IsStop (D.may_cancel provider.now) (IsFull (notes_in self.new))) }
     {
         match requirement.condition {
@@ -95,9 +100,8 @@ impl<N: Copy + Eq + Hash + Drop, S: Copy + Eq + Hash + Drop> Encoding<N, S> {
         requires is_true { IsTrueCache (D.universe provider.now) cache.old }
         ensures room { KeepsRoom self.old self.new }
         ensures is_true { IsTrueCache (D.universe provider.now) cache.new }
-        ensures step { OnOk result (IsAskStep (D.universe provider.now) (λ n.
-            (r : ConditionalRequirement) × Contains requirements.now r × IsPlainlyNamed (D.universe provider.now) r n) (λ root. ⊤) (notes_in self.old)
-            (notes_in self.new)) }
+        ensures step { let u = D.universe provider.now in OnOk result
+            (CallsOnly u (IsPlainlyNamedByEach u requirements.now) (notes_in self.old) (notes_in self.new)) }
         ensures refusal { IfErr result (IsStop (D.may_cancel provider.now) (IsFull (notes_in self.new))) }
     {
         for requirement in requirements {
@@ -116,13 +120,11 @@ impl<N: Copy + Eq + Hash + Drop, S: Copy + Eq + Hash + Drop> Encoding<N, S> {
         requirements: &[ConditionalRequirement],
     ) -> Result<(), Interrupted<D::Cancel>>
         requires is_true { IsTrueCache (D.universe provider.now) cache.old }
-        requires encoding { IsEncodingOf (D.universe provider.now) (λ root. All (λ r. HasRequirement (D.universe provider.now) by r root) requirements.now)
-            (notes_in self.old) }
+        requires encoding { let u = D.universe provider.now in IsEncodingOf u (HasRequirements u by requirements.now) (notes_in self.old) }
         ensures room { KeepsRoom self.old self.new }
         ensures is_true { IsTrueCache (D.universe provider.now) cache.new }
-        ensures step { OnOk result (IsReadStep (D.universe provider.now) (IsUnmet (D.universe provider.now) chosen.now.keys by)
-            (IsCalledByEach (D.universe provider.now) chosen.now.keys requirements.now) (λ root.
-            All (λ r. HasRequirement (D.universe provider.now) by r root) requirements.now) (notes_in self.old) (notes_in self.new)) }
+        ensures step { OnOk result
+            (IsRequirementsStep (D.universe provider.now) chosen.now.keys by requirements.now (notes_in self.old) (notes_in self.new)) }
         ensures read { OnOk result (All
             (IsReadRequirement (D.universe provider.now) (notes_in self.new).kinds (IsLeft (notes_in self.new)) by) requirements.now) }
         ensures refusal { IfErr result (IsStop (D.may_cancel provider.now) (IsFull (notes_in self.new))) }
@@ -142,14 +144,12 @@ impl<N: Copy + Eq + Hash + Drop, S: Copy + Eq + Hash + Drop> Encoding<N, S> {
         constraints: &[VersionSetId],
     ) -> Result<(), Interrupted<D::Cancel>>
         requires is_true { IsTrueCache (D.universe provider.now) cache.old }
-        requires encoding { IsEncodingOf (D.universe provider.now) (λ root. All (λ v. HasConstraint (D.universe provider.now) by v root) constraints.now)
-            (notes_in self.old) }
+        requires encoding { let u = D.universe provider.now in IsEncodingOf u (HasConstraints u by constraints.now) (notes_in self.old) }
         ensures room { KeepsRoom self.old self.new }
         ensures is_true { IsTrueCache (D.universe provider.now) cache.new }
-        ensures step { OnOk result (IsAskStep (D.universe provider.now) (IsNamedBy (D.universe provider.now) constraints.now) (λ root.
-            All (λ v. HasConstraint (D.universe provider.now) by v root) constraints.now) (notes_in self.old) (notes_in self.new)) }
+        ensures step { OnOk result (IsConstraintsStep (D.universe provider.now) by constraints.now (notes_in self.old) (notes_in self.new)) }
         ensures read { OnOk result (All (IsConstraintRead (D.universe provider.now) (notes_in self.new).kinds by) constraints.now) }
-        ensures asked { OnOk result (All (λ v. Contains (notes_in self.new).asked ((D.universe provider.now).version_set_name v)) constraints.now) }
+        ensures asked { OnOk result (AreNamesAsked (D.universe provider.now) (notes_in self.new) constraints.now) }
         ensures refusal { IfErr result (IsStop (D.may_cancel provider.now) (IsFull (notes_in self.new))) }
     {
         for version_set in constraints {
@@ -167,26 +167,21 @@ impl<N: Copy + Eq + Hash + Drop, S: Copy + Eq + Hash + Drop> Encoding<N, S> {
         cache: &mut Cache<N, S>,
         chosen: &IndexSet<S>,
         by: By<S>,
-        requirements: &[ConditionalRequirement],
-        constraints: &[VersionSetId],
+        demands: Demands<'_>,
     ) -> Result<(), Interrupted<D::Cancel>>
         requires is_true { IsTrueCache (D.universe provider.now) cache.old }
-        requires encoding { IsEncodingOf (D.universe provider.now) (λ root.
-            demands_by (D.universe provider.now) root by ≡ (record { requirements = requirements.now; constraints = constraints.now })) (notes_in self.old) }
+        requires encoding { let u = D.universe provider.now in IsEncodingOf u (λ root. demands_by u root by ≡ demands_in demands) (notes_in self.old) }
         ensures room { KeepsRoom self.old self.new }
         ensures is_true { IsTrueCache (D.universe provider.now) cache.new }
-        ensures step { OnOk result (IsReadStep (D.universe provider.now) (IsUnmet (D.universe provider.now) chosen.now.keys by)
-            (IsDemanded (D.universe provider.now) chosen.now.keys (record { requirements = requirements.now; constraints = constraints.now })) (λ root.
-            demands_by (D.universe provider.now) root by ≡ (record { requirements = requirements.now; constraints = constraints.now })) (notes_in self.old)
-            (notes_in self.new)) }
-        ensures read { OnOk result (AreDemandsRead (D.universe provider.now) (notes_in self.new) by
-            (record { requirements = requirements.now; constraints = constraints.now })) }
+        ensures step { OnOk result
+            (IsDemandsStep (D.universe provider.now) chosen.now.keys by (demands_in demands.entry) (notes_in self.old) (notes_in self.new)) }
+        ensures read { OnOk result (AreDemandsRead (D.universe provider.now) (notes_in self.new) by (demands_in demands.entry)) }
         ensures refusal { IfErr result (IsStop (D.may_cancel provider.now) (IsFull (notes_in self.new))) }
     {
-        self.ask_plain_each(provider, cache, requirements)?;
-        self.ask_each(provider, cache, constraints)?;
-        self.read_requirements(provider, cache, chosen, by, requirements)?;
-        self.read_constraints(provider, cache, by, constraints)?;
+        self.ask_plain_each(provider, cache, demands.requirements)?;
+        self.ask_each(provider, cache, demands.constraints)?;
+        self.read_requirements(provider, cache, chosen, by, demands.requirements)?;
+        self.read_constraints(provider, cache, by, demands.constraints)?;
         Ok(())
     }
 
@@ -202,9 +197,7 @@ impl<N: Copy + Eq + Hash + Drop, S: Copy + Eq + Hash + Drop> Encoding<N, S> {
         requires encoding { IsEncodingOf (D.universe provider.now) (λ root. ⊤) (notes_in self.old) }
         ensures room { KeepsRoom self.old self.new }
         ensures is_true { IsTrueCache (D.universe provider.now) cache.new }
-        ensures step { OnOk result (IsReadStep (D.universe provider.now) (IsUnmet (D.universe provider.now) chosen.now.keys (BySolvable solvable))
-            (IsDemanded (D.universe provider.now) chosen.now.keys (demands_of ((D.universe provider.now).needs solvable))) (λ root. ⊤) (notes_in self.old)
-            (notes_in self.new)) }
+        ensures step { OnOk result (IsSolvableStep (D.universe provider.now) chosen.now.keys solvable (notes_in self.old) (notes_in self.new)) }
         ensures read { OnOk result (AreNeedsRead (D.universe provider.now) (notes_in self.new) solvable ((D.universe provider.now).needs solvable)) }
         ensures refusal { IfErr result (IsStop (D.may_cancel provider.now) (IsFull (notes_in self.new))) }
     {
@@ -217,8 +210,11 @@ impl<N: Copy + Eq + Hash + Drop, S: Copy + Eq + Hash + Drop> Encoding<N, S> {
             Dependencies::Known(known) => {
                 let requirements = Vec::from_slice(self.alloc, &known.requirements)?;
                 let constraints = Vec::from_slice(self.alloc, &known.constrains)?;
-                let by = By::Solvable(solvable);
-                self.read_demands(provider, cache, chosen, by, &requirements, &constraints)?;
+                let demands = Demands {
+                    requirements: &requirements,
+                    constraints: &constraints,
+                };
+                self.read_demands(provider, cache, chosen, By::Solvable(solvable), demands)?;
                 Ok(())
             }
         }
@@ -264,12 +260,11 @@ impl<N: Copy + Eq + Hash + Drop, S: Copy + Eq + Hash + Drop> Encoding<N, S> {
         requires within { from ≤ length chosen.now.keys }
         ensures room { KeepsRoom self.old self.new }
         ensures is_true { IsTrueCache (D.universe provider.now) cache.new }
-        ensures reading { OnOk result (IsReadingOf (D.universe provider.now) chosen.now.keys (Contains chosen.now.keys) (notes_in self.old)
-            (notes_in self.new)) }
+        ensures reading { let set = chosen.now.keys in OnOk result
+            (IsReadingOf (D.universe provider.now) set (Contains set) (notes_in self.old) (notes_in self.new)) }
         ensures here { OnOk result (All (Contains (notes_in self.new).read) (drop from chosen.now.keys)) }
         ensures any_new { IfOk result (HasRead (notes_in self.old) (notes_in self.new)) }
-        ensures fit { OnOk result (((s : S) → Contains (notes_in self.new).read s → Contains (notes_in self.new).origins (SolvableOrigin s)) →
-            length (notes_in self.new).read ≤ length (notes_in self.new).origins) }
+        ensures fit { OnOk result (HasReadKnown (notes_in self.new) → length (notes_in self.new).read ≤ length (notes_in self.new).origins) }
         ensures refusal { IfErr result (IsStop (D.may_cancel provider.now) (IsFull (notes_in self.new))) }
     {
         let before = self.read.len();
@@ -290,7 +285,7 @@ impl<N: Copy + Eq + Hash + Drop, S: Copy + Eq + Hash + Drop> Encoding<N, S> {
     ) -> Result<(), Exhausted>
         requires nothing_read { IsUnread (notes_in self.old) }
         ensures room { KeepsRoom self.old self.new }
-        ensures installed { OnOk result ((root : Demands) → IsEncoding (D.universe provider.now) root (notes_in self.new)) }
+        ensures installed { OnOk result ((root : DemandsOf) → IsEncoding (D.universe provider.now) root (notes_in self.new)) }
         ensures nothing { OnOk result (IsBare (notes_in self.new)) }
         ensures exempt { OnOk result ((notes_in self.new).exempt ≡ (notes_in self.old).exempt) }
         ensures refusal { IfErr result (IsShortage (IsFull (notes_in self.new))) }
@@ -315,13 +310,12 @@ impl<N: Copy + Eq + Hash + Drop, S: Copy + Eq + Hash + Drop> Encoding<N, S> {
         requires is_true { IsTrueCache (D.universe provider.now) cache.old }
         requires nothing_read { IsUnread (notes_in self.old) }
         ensures is_true { IsTrueCache (D.universe provider.now) cache.new }
-        ensures read { OnOk result (IsReadSoFar (D.universe provider.now) (record { requirements = requirements.now; constraints = constraints.now }) []
-            (notes_in self.new)) }
-        ensures asked { OnOk result (AreAsked
-            (IsCalledFor (D.universe provider.now) (record { requirements = requirements.now; constraints = constraints.now }) (notes_in self.new).read []) []
-            (notes_in self.new).asked) }
-        ensures near { OnOk result ((seeds : List S) (packages : List N) →
-            AreNear (D.universe provider.now) (record { requirements = requirements.now; constraints = constraints.now }) seeds packages (notes_in self.new)) }
+        ensures read { let root = demands_with requirements.now constraints.now in OnOk result
+            (IsReadSoFar (D.universe provider.now) root [] (notes_in self.new)) }
+        ensures asked { let root = demands_with requirements.now constraints.now in OnOk result
+            (AsksCalled (D.universe provider.now) [] root [] (notes_in self.new)) }
+        ensures near { let root = demands_with requirements.now constraints.now in OnOk result
+            (AreNearAny (D.universe provider.now) root (notes_in self.new)) }
         ensures reads { OnOk result ((s : S) → Contains (notes_in self.new).read s → IsListedFrom (notes_in self.new) 0 s) }
         ensures hinted { OnOk result (AreHintsRead (D.universe provider.now) 0 (notes_in self.new)) }
         ensures exempt { OnOk result ((notes_in self.new).exempt ≡ (notes_in self.old).exempt) }
@@ -330,7 +324,11 @@ impl<N: Copy + Eq + Hash + Drop, S: Copy + Eq + Hash + Drop> Encoding<N, S> {
     {
         self.install_root(provider)?;
         let none = IndexSet::new(self.alloc);
-        self.read_demands(provider, cache, &none, By::Root, requirements, constraints)?;
+        let demands = Demands {
+            requirements,
+            constraints,
+        };
+        self.read_demands(provider, cache, &none, By::Root, demands)?;
         self.read_hinted(provider, cache, &none, 0)?;
         Ok(())
     }
@@ -352,15 +350,12 @@ impl<N: Copy + Eq + Hash + Drop, S: Copy + Eq + Hash + Drop> Encoding<N, S> {
         requires known { All (λ s. Contains (notes_in self.old).origins (SolvableOrigin s)) chosen.now.keys }
         requires within { from ≤ length chosen.now.keys }
         ensures is_true { IsTrueCache (D.universe provider.now) cache.new }
-        ensures read { OnOk result ((root : Demands) → IsReadSoFar (D.universe provider.now) root (take from chosen.now.keys) (notes_in self.old) →
-            IsReadSoFar (D.universe provider.now) root chosen.now.keys (notes_in self.new)) }
-        ensures asked { OnOk result ((root : Demands) → IsReadSoFar (D.universe provider.now) root (take from chosen.now.keys) (notes_in self.old) →
-            AreAsked (IsCalledFor (D.universe provider.now) root (notes_in self.new).read chosen.now.keys) (notes_in self.old).asked
-            (notes_in self.new).asked) }
-        ensures near { OnOk result ((root : Demands) (seeds : List S) (packages : List N) →
-            IsReadSoFar (D.universe provider.now) root (take from chosen.now.keys) (notes_in self.old) →
-            AreNear (D.universe provider.now) root seeds packages (notes_in self.old) → All (IsNear (D.universe provider.now) root seeds) chosen.now.keys →
-            AreNear (D.universe provider.now) root seeds packages (notes_in self.new)) }
+        ensures read { let set = chosen.now.keys in OnOk result
+            (ReadsOn (D.universe provider.now) set (take from set) (notes_in self.old) (notes_in self.new)) }
+        ensures asked { let set = chosen.now.keys in OnOk result
+            (AsksOn (D.universe provider.now) set (take from set) (notes_in self.old) (notes_in self.new)) }
+        ensures near { let set = chosen.now.keys in OnOk result
+            (StaysNear (D.universe provider.now) set (take from set) (notes_in self.old) (notes_in self.new)) }
         ensures hinted { OnOk result (AreHintsRead (D.universe provider.now) (length (notes_in self.old).requirements) (notes_in self.new)) }
         ensures more { OnOk result (IsReadMore (D.universe provider.now) chosen.now.keys (notes_in self.old) (notes_in self.new)) }
         ensures progress { IfOk result (IsProgress (notes_in self.old) (notes_in self.new)) }

@@ -1,27 +1,27 @@
 //! Clauses of requirements.
 
-ghost use Rattle.std.specs.Prelude.{◌≡◌, ◌<◌, ◌^◌, [], All, Contains, IfErr, IfOk, IfSome, None, OnOk, map, ⊤};
+ghost use Rattle.std.specs.Prelude.{◌≡◌, ◌<◌, ◌^◌, [], All, Contains, IfErr, IfOk, IfSome, None, OnOk};
 ghost use Rattle.resolver_clause_store.specs.Caches.{IsTrueCache};
 ghost use Rattle.resolver_clause_store.specs.Candidates.{requirement_candidates as candidates_of, version_sets};
 ghost use Rattle.resolver_clause_store.specs.Variables.{AreDistinct};
 ghost use Rattle.resolver_clause_store.specs.declared.By.TheVariants.{Solvable as BySolvable};
 ghost use Rattle.resolver_clause_store.specs.declared.ClauseKind.TheVariants.{Requires as RequiresKind};
-ghost use Rattle.resolver_encoding.specs.Called.{IsCalledBy, IsWantedBy};
-ghost use Rattle.resolver_encoding.specs.Encodings.{AreDisjuncts, HasRequirement, IsAskStep, IsDisjunctOf, IsDisjunctRead, IsEncodingOf};
-ghost use Rattle.resolver_encoding.specs.Encodings.{IsFull, IsLeft, IsReadStep, IsStep, IsTrueUnder, IsUnmet};
+ghost use Rattle.resolver_encoding.specs.Called.{IsWantedBy};
+ghost use Rattle.resolver_encoding.specs.Encodings.{AreNamesAsked, HasPlainRequirement, HasRequirement, IsEncodingOf, IsEntryRead, IsFull};
+ghost use Rattle.resolver_encoding.specs.Encodings.{IsLeft, IsStep, IsTrueUnder};
 ghost use Rattle.resolver_encoding.specs.ReadState.{HasClause, IsReadRequirement};
 ghost use Rattle.resolver_encoding.specs.Refusals.{IsStop};
+ghost use Rattle.resolver_encoding.specs.Steps.{CallsOnly, IsDisjunctStep, IsEntryStep, IsPlainStep, IsRequirementStep};
 
 use super::Encoding;
 use crate::choices::{Choices, choices_of};
-use crate::disjuncts::{disjuncts_of, is_met, without_repeats};
+use crate::disjuncts::{Entry, disjuncts_of, is_met, without_repeats};
 use indexmap::IndexSet;
 use resolver_clause_store::{
     By, Cache, ClauseKind, ConditionId, ConditionalRequirement, DependencyProvider, Disjunct,
-    Exhausted, Interner, Interrupted, Requirement, VersionSetId, is_among,
+    Interner, Interrupted, Requirement, is_among,
 };
 use std::hash::Hash;
-use std::mem::replace;
 
 /// A requirement that a solvable has without a condition gets a gate if it has at least this many candidates.
 const GATE_THRESHOLD: usize = 4;
@@ -41,7 +41,7 @@ fn plain_requirer<S: Copy>(by: By<S>, condition: Option<ConditionId>) -> Option<
 }
 
 impl<N: Copy + Eq + Hash + Drop, S: Copy + Eq + Hash + Drop> Encoding<N, S> {
-    ghost use Rattle.resolver_encoding.specs.Notes.{KeepsRoom, notes_in};
+    ghost use Rattle.resolver_encoding.specs.Notes.{KeepsRoom, entry_of, notes_in};
 
     /// Encodes a requirement under a disjunct of its condition, with candidates that are registered.
     #[inline(always)]
@@ -49,29 +49,31 @@ impl<N: Copy + Eq + Hash + Drop, S: Copy + Eq + Hash + Drop> Encoding<N, S> {
         &mut self,
         provider: &D,
         cache: &mut Cache<N, S>,
-        by: By<S>,
-        disjunct: Vec<VersionSetId>,
-        requirement: Requirement,
+        entry: Entry<S>,
         choices: &Choices<S>,
     ) -> Result<(), Interrupted<D::Cancel>>
         requires is_true { IsTrueCache (D.universe provider.now) cache.old }
-        requires candidates { choices.now.candidates.items ≡ candidates_of (D.universe provider.now) requirement }
+        requires candidates { choices.now.candidates.items ≡ candidates_of (D.universe provider.now) entry.requirement }
         requires small { All (λ n. n < 2 ^ 63) choices.now.counts.items }
-        requires asked { All (λ v. Contains (notes_in self.old).asked ((D.universe provider.now).version_set_name v))
-            (version_sets (D.universe provider.now) requirement) }
+        requires asked { let u = D.universe provider.now in AreNamesAsked u (notes_in self.old) (version_sets u entry.requirement) }
         requires seen { All (Contains (notes_in self.old).seen) choices.now.candidates.items }
-        requires once { AreDistinct disjunct.items }
+        requires once { AreDistinct entry.disjunct.items }
         ensures room { KeepsRoom self.old self.new }
         ensures is_true { IsTrueCache (D.universe provider.now) cache.new }
-        ensures step { OnOk result (IsStep (D.universe provider.now) (IsTrueUnder (D.universe provider.now) by disjunct.items requirement) (notes_in self.old)
-            (notes_in self.new)) }
-        ensures read { OnOk result (Contains (notes_in self.new).kinds (RequiresKind by disjunct.items requirement)) }
+        ensures step { let u = D.universe provider.now in OnOk result
+            (IsStep u (IsTrueUnder u (entry_of entry)) (notes_in self.old) (notes_in self.new)) }
+        ensures read { OnOk result (Contains (notes_in self.new).kinds (RequiresKind entry.by entry.disjunct.items entry.requirement)) }
         ensures refusal { IfErr result (IsStop (D.may_cancel provider.now) (IsFull (notes_in self.new))) }
     {
-        self.help_each(provider, cache, &disjunct)?;
+        self.help_each(provider, cache, &entry.disjunct)?;
+        let Entry {
+            by,
+            disjunct,
+            requirement,
+        } = entry;
         let kind = ClauseKind::Requires {
             parent: by,
-            disjunct: Disjunct::new(disjunct),
+            disjunct: Disjunct::new(self.alloc, disjunct)?,
             requirement,
         };
         self.add_with(kind, choices)?;
@@ -90,16 +92,13 @@ impl<N: Copy + Eq + Hash + Drop, S: Copy + Eq + Hash + Drop> Encoding<N, S> {
         ensures is_true { IsTrueCache (D.universe provider.now) cache.new }
         ensures candidates { IfOk result (λ choices. choices.candidates.items ≡ candidates_of (D.universe provider.now) requirement) }
         ensures small { IfOk result (λ choices. All (λ n. n < 2 ^ 63) choices.counts.items) }
-        ensures step { OnOk result (IsAskStep (D.universe provider.now) (IsWantedBy (D.universe provider.now) requirement) (λ root. ⊤) (notes_in self.old)
-            (notes_in self.new)) }
-        ensures asked { OnOk result (All (λ v. Contains (notes_in self.new).asked ((D.universe provider.now).version_set_name v))
-            (version_sets (D.universe provider.now) requirement)) }
+        ensures step { let u = D.universe provider.now in OnOk result (CallsOnly u (IsWantedBy u requirement) (notes_in self.old) (notes_in self.new)) }
+        ensures asked { let u = D.universe provider.now in OnOk result (AreNamesAsked u (notes_in self.new) (version_sets u requirement)) }
         ensures seen { IfOk result (λ choices. All (Contains (notes_in self.new).seen) choices.candidates.items) }
         ensures refusal { IfErr result (IsStop (D.may_cancel provider.now) (IsFull (notes_in self.new))) }
     {
         self.ask_named(provider, cache, requirement)?;
-        let list = replace(&mut self.spare, Vec::new(self.alloc));
-        let choices = choices_of(self.alloc, provider, cache, requirement, list)?;
+        let choices = choices_of(self.alloc, provider, cache, requirement)?;
         self.see_all(provider, &choices.candidates)?;
         Ok(choices)
     }
@@ -109,22 +108,18 @@ impl<N: Copy + Eq + Hash + Drop, S: Copy + Eq + Hash + Drop> Encoding<N, S> {
         &mut self,
         provider: &D,
         cache: &mut Cache<N, S>,
-        by: By<S>,
-        disjunct: Vec<VersionSetId>,
-        requirement: Requirement,
+        entry: Entry<S>,
     ) -> Result<(), Interrupted<D::Cancel>>
         requires is_true { IsTrueCache (D.universe provider.now) cache.old }
-        requires once { AreDistinct disjunct.items }
+        requires once { AreDistinct entry.disjunct.items }
         ensures room { KeepsRoom self.old self.new }
         ensures is_true { IsTrueCache (D.universe provider.now) cache.new }
-        ensures step { OnOk result (IsAskStep (D.universe provider.now) (IsWantedBy (D.universe provider.now) requirement)
-            (IsTrueUnder (D.universe provider.now) by disjunct.items requirement) (notes_in self.old) (notes_in self.new)) }
-        ensures read { OnOk result (HasClause (notes_in self.new).kinds by disjunct.items requirement) }
+        ensures step { OnOk result (IsEntryStep (D.universe provider.now) (entry_of entry) (notes_in self.old) (notes_in self.new)) }
+        ensures read { OnOk result (HasClause (notes_in self.new).kinds entry.by entry.disjunct.items entry.requirement) }
         ensures refusal { IfErr result (IsStop (D.may_cancel provider.now) (IsFull (notes_in self.new))) }
     {
-        let choices = self.choose(provider, cache, requirement)?;
-        self.encode_choices(provider, cache, by, disjunct, requirement, &choices)?;
-        self.spare = choices.candidates;
+        let choices = self.choose(provider, cache, entry.requirement)?;
+        self.encode_choices(provider, cache, entry, &choices)?;
         Ok(())
     }
 
@@ -135,57 +130,27 @@ impl<N: Copy + Eq + Hash + Drop, S: Copy + Eq + Hash + Drop> Encoding<N, S> {
         provider: &D,
         cache: &mut Cache<N, S>,
         chosen: &IndexSet<S>,
-        by: By<S>,
-        requirement: ConditionalRequirement,
-        disjunct: &[VersionSetId],
+        entry: Entry<S>,
     ) -> Result<(), Interrupted<D::Cancel>>
         requires is_true { IsTrueCache (D.universe provider.now) cache.old }
-        requires disjunct { IsDisjunctOf (D.universe provider.now) requirement.condition disjunct.now }
+        requires once { AreDistinct entry.disjunct.items }
         ensures room { KeepsRoom self.old self.new }
         ensures is_true { IsTrueCache (D.universe provider.now) cache.new }
-        ensures step { OnOk result (IsReadStep (D.universe provider.now) (IsUnmet (D.universe provider.now) chosen.now.keys by)
-            (IsCalledBy (D.universe provider.now) chosen.now.keys requirement) (HasRequirement (D.universe provider.now) by requirement) (notes_in self.old)
-            (notes_in self.new)) }
-        ensures read { OnOk result (IsDisjunctRead (notes_in self.new) by requirement.requirement disjunct.now) }
+        ensures step { OnOk result
+            (IsDisjunctStep (D.universe provider.now) chosen.now.keys (entry_of entry) (notes_in self.old) (notes_in self.new)) }
+        ensures read { OnOk result (IsEntryRead (notes_in self.new) (entry_of entry)) }
         ensures refusal { IfErr result (IsStop (D.may_cancel provider.now) (IsFull (notes_in self.new))) }
     {
-        let each_once = without_repeats(self.alloc, disjunct)?;
-        let met = is_met(provider, cache, chosen, &each_once)?;
+        let met = is_met(provider, cache, chosen, &entry.disjunct)?;
         if met {
-            self.encode_disjunct(provider, cache, by, each_once, requirement.requirement)?;
+            self.encode_disjunct(provider, cache, entry)?;
             return Ok(());
         }
-        self.defer(provider, by, each_once, requirement.requirement)?;
+        self.defer(provider, entry)?;
         Ok(())
     }
 
-    /// Reads a requirement under each disjunct of its condition.
-    fn read_disjuncts<D: DependencyProvider<NameId = N, SolvableId = S>>(
-        &mut self,
-        provider: &D,
-        cache: &mut Cache<N, S>,
-        chosen: &IndexSet<S>,
-        by: By<S>,
-        requirement: ConditionalRequirement,
-        disjuncts: &[Vec<VersionSetId>],
-    ) -> Result<(), Interrupted<D::Cancel>>
-        requires is_true { IsTrueCache (D.universe provider.now) cache.old }
-        requires disjuncts { AreDisjuncts (D.universe provider.now) requirement.condition (map (λ list. list.items) disjuncts.now) }
-        ensures room { KeepsRoom self.old self.new }
-        ensures is_true { IsTrueCache (D.universe provider.now) cache.new }
-        ensures step { OnOk result (IsReadStep (D.universe provider.now) (IsUnmet (D.universe provider.now) chosen.now.keys by)
-            (IsCalledBy (D.universe provider.now) chosen.now.keys requirement) (HasRequirement (D.universe provider.now) by requirement) (notes_in self.old)
-            (notes_in self.new)) }
-        ensures read { OnOk result (IsReadRequirement (D.universe provider.now) (notes_in self.new).kinds (IsLeft (notes_in self.new)) by requirement) }
-        ensures refusal { IfErr result (IsStop (D.may_cancel provider.now) (IsFull (notes_in self.new))) }
-    {
-        for disjunct in disjuncts {
-            self.read_disjunct(provider, cache, chosen, by, requirement, disjunct)?;
-        }
-        Ok(())
-    }
-
-    /// Reads a requirement with clauses of its own, without a gate.
+    /// Reads a requirement under each disjunct of its condition, without a gate.
     fn read_direct<D: DependencyProvider<NameId = N, SolvableId = S>>(
         &mut self,
         provider: &D,
@@ -197,14 +162,21 @@ impl<N: Copy + Eq + Hash + Drop, S: Copy + Eq + Hash + Drop> Encoding<N, S> {
         requires is_true { IsTrueCache (D.universe provider.now) cache.old }
         ensures room { KeepsRoom self.old self.new }
         ensures is_true { IsTrueCache (D.universe provider.now) cache.new }
-        ensures step { OnOk result (IsReadStep (D.universe provider.now) (IsUnmet (D.universe provider.now) chosen.now.keys by)
-            (IsCalledBy (D.universe provider.now) chosen.now.keys requirement) (HasRequirement (D.universe provider.now) by requirement) (notes_in self.old)
-            (notes_in self.new)) }
+        ensures step { OnOk result
+            (IsRequirementStep (D.universe provider.now) chosen.now.keys by requirement (notes_in self.old) (notes_in self.new)) }
         ensures read { OnOk result (IsReadRequirement (D.universe provider.now) (notes_in self.new).kinds (IsLeft (notes_in self.new)) by requirement) }
         ensures refusal { IfErr result (IsStop (D.may_cancel provider.now) (IsFull (notes_in self.new))) }
     {
         let disjuncts = disjuncts_of(self.alloc, provider, requirement.condition)?;
-        self.read_disjuncts(provider, cache, chosen, by, requirement, &disjuncts)?;
+        for list in &disjuncts {
+            let disjunct = without_repeats(self.alloc, list)?;
+            let entry = Entry {
+                by,
+                disjunct,
+                requirement: requirement.requirement,
+            };
+            self.read_disjunct(provider, cache, chosen, entry)?;
+        }
         Ok(())
     }
 
@@ -217,13 +189,10 @@ impl<N: Copy + Eq + Hash + Drop, S: Copy + Eq + Hash + Drop> Encoding<N, S> {
         requirement: Requirement,
     ) -> Result<(), Interrupted<D::Cancel>>
         requires is_true { IsTrueCache (D.universe provider.now) cache.old }
-        requires encoding { IsEncodingOf (D.universe provider.now)
-            (HasRequirement (D.universe provider.now) (BySolvable requirer) (record { condition = None; requirement = requirement })) (notes_in self.old) }
+        requires encoding { let u = D.universe provider.now in IsEncodingOf u (HasPlainRequirement u requirer requirement) (notes_in self.old) }
         ensures room { KeepsRoom self.old self.new }
         ensures is_true { IsTrueCache (D.universe provider.now) cache.new }
-        ensures step { OnOk result (IsAskStep (D.universe provider.now) (IsWantedBy (D.universe provider.now) requirement)
-            (HasRequirement (D.universe provider.now) (BySolvable requirer) (record { condition = None; requirement = requirement })) (notes_in self.old)
-            (notes_in self.new)) }
+        ensures step { OnOk result (IsPlainStep (D.universe provider.now) requirer requirement (notes_in self.old) (notes_in self.new)) }
         ensures read { OnOk result (HasClause (notes_in self.new).kinds (BySolvable requirer) [] requirement) }
         ensures refusal { IfErr result (IsStop (D.may_cancel provider.now) (IsFull (notes_in self.new))) }
     {
@@ -233,15 +202,17 @@ impl<N: Copy + Eq + Hash + Drop, S: Copy + Eq + Hash + Drop> Encoding<N, S> {
         }
         let choices = self.choose(provider, cache, requirement)?;
         if choices.candidates.len() < GATE_THRESHOLD {
-            let by = By::Solvable(requirer);
             let none = Vec::new(self.alloc);
-            self.encode_choices(provider, cache, by, none, requirement, &choices)?;
-            self.spare = choices.candidates;
+            let entry = Entry {
+                by: By::Solvable(requirer),
+                disjunct: none,
+                requirement,
+            };
+            self.encode_choices(provider, cache, entry, &choices)?;
             return Ok(());
         }
         self.make_gate(provider, requirement, &choices)?;
         self.imply_gate(provider, requirer, requirement)?;
-        self.spare = choices.candidates;
         Ok(())
     }
 
@@ -258,9 +229,8 @@ impl<N: Copy + Eq + Hash + Drop, S: Copy + Eq + Hash + Drop> Encoding<N, S> {
         requires encoding { IsEncodingOf (D.universe provider.now) (HasRequirement (D.universe provider.now) by requirement) (notes_in self.old) }
         ensures room { KeepsRoom self.old self.new }
         ensures is_true { IsTrueCache (D.universe provider.now) cache.new }
-        ensures step { OnOk result (IsReadStep (D.universe provider.now) (IsUnmet (D.universe provider.now) chosen.now.keys by)
-            (IsCalledBy (D.universe provider.now) chosen.now.keys requirement) (HasRequirement (D.universe provider.now) by requirement) (notes_in self.old)
-            (notes_in self.new)) }
+        ensures step { OnOk result
+            (IsRequirementStep (D.universe provider.now) chosen.now.keys by requirement (notes_in self.old) (notes_in self.new)) }
         ensures read { OnOk result (IsReadRequirement (D.universe provider.now) (notes_in self.new).kinds (IsLeft (notes_in self.new)) by requirement) }
         ensures refusal { IfErr result (IsStop (D.may_cancel provider.now) (IsFull (notes_in self.new))) }
     {

@@ -1,12 +1,12 @@
 //! Turns of soft requirements.
 
-ghost use Rattle.std.specs.Prelude.{◌≡◌, ◌≢◌, ◌≤◌, ◌+◌, All, Contains, IfErr, IfOk, OnOk, Some, length, slice_get, take, ⊤};
+ghost use Rattle.std.specs.Prelude.{◌≡◌, ◌≤◌, ◌+◌, All, Contains, IfErr, IfOk, OnOk, Some, length, slice_get, take, ⊤};
 ghost use Rattle.resolver_clause_store.specs.Caches.{IsTrueCache};
-ghost use Rattle.resolver_clause_store.specs.SoftRun.{Exempts};
-ghost use Rattle.resolver_clause_store.specs.declared.ClauseKind.TheVariants.{Excluded as ExcludedKind, Lock as LockKind};
+ghost use Rattle.resolver_clause_store.specs.declared.ClauseKind.TheVariants.{Excluded as Excludes};
 ghost use Rattle.resolver_clause_store.specs.declared.Origin.TheVariants.{Solvable as SolvableOrigin};
 ghost use Rattle.resolver_encoding.specs.Encodings.{IsFull, IsStepWhile, KeepsLimits, owing_for};
 ghost use Rattle.resolver_encoding.specs.Refusals.{IsShortage, IsStop};
+ghost use Rattle.resolver_encoding.specs.Steps.{ExemptsOne, HasLock, HasUnlessExempt};
 ghost use Rattle.resolver_encoding.specs.Turns.{AddsPlainly, IsRestored, IsRegistered, IsTurnEnd, StaysRead};
 
 use super::Encoding;
@@ -54,8 +54,7 @@ impl<N: Copy + Eq + Hash + Drop, S: Copy + Eq + Hash + Drop> Encoding<N, S> {
     ) -> Result<(), Exhausted>
         ensures only { notes_in self.new ≡ record (notes_in self.old) { exempt = (notes_in self.new).exempt } }
         ensures few { length (notes_in self.new).exempt ≤ length (notes_in self.old).exempt + 1 }
-        ensures exempts { OnOk result ((Contains (notes_in self.old).exempt solvable → ⊥) →
-            Exempts (D.universe provider.now) (notes_in self.old).asked (notes_in self.old).exempt solvable (notes_in self.new).exempt) }
+        ensures exempts { OnOk result (ExemptsOne (D.universe provider.now) solvable (notes_in self.old) (notes_in self.new)) }
         ensures stays { OnOk result (StaysRead (D.universe provider.now) (notes_in self.old) (notes_in self.new)) }
         ensures memory { IfErr result (λ e. e ≡ Exhausted.Memory) }
     {
@@ -86,8 +85,7 @@ impl<N: Copy + Eq + Hash + Drop, S: Copy + Eq + Hash + Drop> Encoding<N, S> {
         ensures room { KeepsRoom self.old self.new }
         ensures step { OnOk result (IsStepWhile (D.universe provider.now) (owing_for solvable) (λ root. ⊤) (notes_in self.old) (notes_in self.new)) }
         ensures plain { OnOk result (AddsPlainly (notes_in self.old) (notes_in self.new)) }
-        ensures restored { OnOk result ((t : S) → locked ≡ Some t → Contains listed.now solvable → solvable ≢ t →
-            (Contains (notes_in self.old).exempt solvable → ⊥) → Contains (notes_in self.new).kinds (LockKind t solvable)) }
+        ensures restored { OnOk result (HasLock solvable listed.now locked (notes_in self.old) (notes_in self.new)) }
         ensures refusal { IfErr result (IsShortage (IsFull (notes_in self.new))) }
     {
         let Some(locked) = locked else {
@@ -115,8 +113,8 @@ impl<N: Copy + Eq + Hash + Drop, S: Copy + Eq + Hash + Drop> Encoding<N, S> {
         ensures room { KeepsRoom self.old self.new }
         ensures step { OnOk result (IsStepWhile (D.universe provider.now) (owing_for solvable) (λ root. ⊤) (notes_in self.old) (notes_in self.new)) }
         ensures plain { OnOk result (AddsPlainly (notes_in self.old) (notes_in self.new)) }
-        ensures restored { OnOk result (excluded ≡ solvable → (Contains (notes_in self.old).exempt solvable → ⊥) →
-            Contains (notes_in self.new).kinds (ExcludedKind excluded reason)) }
+        ensures restored { OnOk result
+            (excluded ≡ solvable → HasUnlessExempt solvable (Excludes excluded reason) (notes_in self.old) (notes_in self.new)) }
         ensures refusal { IfErr result (IsShortage (IsFull (notes_in self.new))) }
     {
         if excluded != solvable {
@@ -139,8 +137,8 @@ impl<N: Copy + Eq + Hash + Drop, S: Copy + Eq + Hash + Drop> Encoding<N, S> {
         ensures room { KeepsRoom self.old self.new }
         ensures step { OnOk result (IsStepWhile (D.universe provider.now) (owing_for solvable) (λ root. ⊤) (notes_in self.old) (notes_in self.new)) }
         ensures plain { OnOk result (AddsPlainly (notes_in self.old) (notes_in self.new)) }
-        ensures restored { OnOk result (All (λ e.
-            e.0 ≡ solvable → (Contains (notes_in self.old).exempt solvable → ⊥) → Contains (notes_in self.new).kinds (ExcludedKind e.0 e.1)) excluded.now) }
+        ensures restored { OnOk result (All
+            (λ e. e.0 ≡ solvable → HasUnlessExempt solvable (Excludes e.0 e.1) (notes_in self.old) (notes_in self.new)) excluded.now) }
         ensures refusal { IfErr result (IsShortage (IsFull (notes_in self.new))) }
     {
         for (other, reason) in excluded {

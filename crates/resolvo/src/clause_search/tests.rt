@@ -21,7 +21,7 @@ fn is_below(clause: &[Literal], variables: usize) -> bool
 {
     clause
         .iter()
-        .all(|literal| literal.variable.index() < variables)
+        .all(|literal| literal.variable().index() < variables)
 }
 
 /// Returns whether each variable of each clause is below the number.
@@ -47,10 +47,10 @@ fn are_inside(requirements: &[RequirementClause], count: usize) -> bool
 
 /// Returns the variable of a positive number, counted from 1, or the negation of that of a negative one.
 fn literal(number: i32) -> Literal {
-    Literal {
-        variable: Variable::new(number.unsigned_abs().saturating_sub(1)),
-        positive: number > 0,
-    }
+    Literal::new(
+        Variable::new(number.unsigned_abs().saturating_sub(1)),
+        number > 0,
+    )
 }
 
 fn clause_of(alloc: Global, numbers: &[i32]) -> Result<Vec<Literal>, AllocError> {
@@ -153,24 +153,11 @@ fn provider_of_nothing(alloc: Global) -> TestProvider {
         constraints: Vec::new(alloc),
         cancelling: Cell::new(0),
         log: Cell::new(0),
-        endless: false,
     }
-}
-
-/// Returns these clauses in the form that a search loads.
-fn runs_of(alloc: Global, clauses: &Clauses) -> Result<ClauseRuns, AllocError>
-    ensures { IfOk result (λ runs. runs ≡ clauses.now) }
-{
-    let mut runs = ClauseRuns::new(alloc);
-    'clauses: for number in 0..clauses.len() {
-        runs.push(clause(clauses, number))?;
-    }
-    Ok(runs)
 }
 
 /// Loads these clauses and requirements, with the packages of variables. Returns whether they could be loaded.
 fn load_given(
-    alloc: Global,
     search: &mut ClauseSearch,
     clauses: &Clauses,
     requirements: &Requirements,
@@ -189,13 +176,9 @@ fn load_given(
     if variables < search.trail().variable_count() {
         return false;
     }
-    let Ok(runs) = runs_of(alloc, clauses) else {
-        return false;
-    };
     let loaded = search.load(
-        alloc,
         variables,
-        &runs,
+        clauses,
         &requirements.clauses,
         &requirements.union_ends,
         owners,
@@ -214,7 +197,7 @@ fn load_all(
     ensures { IfOk result (λ loaded. IsTrue loaded → IsConsistent search.new) }
 {
     let requirements = all_required(alloc, clauses.len())?;
-    let loaded = load_given(alloc, search, clauses, &requirements, variables, &[]);
+    let loaded = load_given(search, clauses, &requirements, variables, &[]);
     Ok(loaded)
 }
 
@@ -464,7 +447,7 @@ fn place_in(table: &Clauses, number: usize, variable: Variable) -> Option<usize>
     }
     clause(table, number)
         .iter()
-        .position(|literal| literal.variable == variable)
+        .position(|literal| literal.variable() == variable)
 }
 
 /// Returns the first decision on a trail.
@@ -491,7 +474,7 @@ fn first_by_searching(
 ) -> Decision
     requires { IsConsistent search.old }
 {
-    if !load_given(alloc, search, table, requirements, 16, &[]) {
+    if !load_given(search, table, requirements, 16, &[]) {
         return None;
     }
     if !finishes(alloc, search, provider) {
@@ -506,10 +489,10 @@ fn assumes(search: &mut ClauseSearch, wanted: Literal) -> Result<bool, AllocErro
     ensures consistent { IfOk result (λ assumed. IsConsistent search.new) }
     ensures base { IfOk result (λ assumed. IsTrue assumed → 0 < base_of search.new) }
 {
-    if search.trail().variable_count() <= wanted.variable.index() {
+    if search.trail().variable_count() <= wanted.variable().index() {
         return Ok(false);
     }
-    if search.trail().slot(wanted.variable).is_some() {
+    if search.trail().slot(wanted.variable()).is_some() {
         return Ok(false);
     }
     search.bookmark();
@@ -549,10 +532,7 @@ fn takes(
         Some(true) => Ok(Some(true)),
         Some(false) => {
             search.retract()?;
-            let refused = Literal {
-                variable: wanted.variable,
-                positive: !wanted.positive,
-            };
+            let refused = Literal::new(wanted.variable(), !wanted.is_positive());
             if assumes(search, refused)? {
                 return Ok(Some(false));
             }
@@ -564,8 +544,8 @@ fn takes(
 
 fn slot_of(search: &ClauseSearch, number: i32) -> Option<Slot> {
     let wanted = literal(number);
-    if wanted.variable.index() < search.trail().variable_count() {
-        return search.trail().slot(wanted.variable);
+    if wanted.variable().index() < search.trail().variable_count() {
+        return search.trail().slot(wanted.variable());
     }
     None
 }
@@ -714,10 +694,10 @@ fn pigeons(alloc: Global, holes: u32) -> Result<Clauses, AllocError>
 
 /// Returns the literal that a pigeon is in a hole, or its negation.
 fn seat(holes: u32, pigeon: u32, hole: u32, positive: bool) -> Literal {
-    Literal {
-        variable: Variable::new(pigeon.wrapping_mul(holes).wrapping_add(hole)),
+    Literal::new(
+        Variable::new(pigeon.wrapping_mul(holes).wrapping_add(hole) % 1000),
         positive,
-    }
+    )
 }
 
 /// Returns whether a task in a new search over six pigeons and five holes has the expected result.

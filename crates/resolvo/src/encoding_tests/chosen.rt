@@ -26,14 +26,14 @@ fn variables(alloc: Global) -> Result<Variables<u32, u32>, Exhausted>
 }
 
 /// Gives a variable a value, if there is such a variable and it has none.
-fn add(trail: &mut Trail, number: u32, positive: bool) -> Result<(), Exhausted>
+fn add(trail: &mut Trail, number: u16, positive: bool) -> Result<(), Exhausted>
     ensures { OnOk result (variable_count trail.new ≡ variable_count trail.old) }
 {
-    let variable = Variable::new(number);
+    let variable = Variable::new(u32::from(number));
     if variable.index() >= trail.variable_count() || trail.slot(variable).is_some() {
         return Ok(());
     }
-    trail.force(Literal { variable, positive }, 9)?;
+    trail.force(Literal::new(variable, positive), 9)?;
     Ok(())
 }
 

@@ -16,7 +16,8 @@ use crate::test_provider::TestProvider;
 use indexmap::IndexSet;
 use resolver_clause_store::{
     Cache, ConditionId, ConditionalRequirement, DependencyProvider, Exhausted, Interner,
-    Interrupted, Origin, Requirement, Variable, Variables, VersionSetId, append, has, is_among,
+    Interrupted, Origin, Requirement, Variable, Variables, VersionSetId, append, clause, has,
+    is_among,
 };
 use resolver_encoding::{Encoding, Progress};
 use std::alloc::Global;
@@ -78,7 +79,6 @@ fn provider_of(
         constraints,
         cancelling: Cell::new(0),
         log: Cell::new(0),
-        endless: false,
     })
 }
 
@@ -109,13 +109,13 @@ type Round = (Progress, usize, usize, usize, u32);
 fn push_registered<N: Copy + Eq + Hash + Drop, S: Copy + Eq + Hash + Drop>(
     variables: &Variables<N, S>,
     list: &mut Vec<S>,
-    number: u32,
+    number: u16,
 ) -> Result<bool, Exhausted>
     requires known { All (λ s. Contains (origins_in variables.now) (SolvableOrigin s)) list.old.items }
     ensures known { OnOk result (All (λ s. Contains (origins_in variables.now) (SolvableOrigin s)) list.new.items) }
     ensures memory { IfErr result (λ e. e ≡ Exhausted.Memory) }
 {
-    match variables.origin(Variable::new(number)) {
+    match variables.origin(Variable::new(u32::from(number))) {
         None => Ok(false),
         Some(Origin::Solvable(solvable)) => {
             list.push(solvable)?;
@@ -140,7 +140,7 @@ fn registered<N: Copy + Eq + Hash + Drop, S: Copy + Eq + Hash + Drop>(
     ensures memory { IfErr result (λ e. e ≡ Exhausted.Memory) }
 {
     let mut list = Vec::new(alloc);
-    for number in 0..u32::MAX {
+    for number in 0..u16::MAX {
         if !push_registered(variables, &mut list, number)? {
             return Ok(list);
         }
@@ -288,11 +288,11 @@ fn asked_count(
     provider: &TestProvider,
     cache: &mut Cache<u32, u32>,
 ) -> Result<usize, Interrupted<u8>>
-    requires is_true { IsTrueCache (test_universe provider.now.endless provider.now.requirements.items provider.now.constraints.items) cache.old }
-    requires reading { IsReading (test_universe provider.now.endless provider.now.requirements.items provider.now.constraints.items) []
+    requires is_true { IsTrueCache (test_universe provider.now.requirements.items provider.now.constraints.items) cache.old }
+    requires reading { IsReading (test_universe provider.now.requirements.items provider.now.constraints.items) []
         (notes_in encoding.old) }
-    ensures is_true { IsTrueCache (test_universe provider.now.endless provider.now.requirements.items provider.now.constraints.items) cache.new }
-    ensures reading { OnOk result (IsReading (test_universe provider.now.endless provider.now.requirements.items provider.now.constraints.items) []
+    ensures is_true { IsTrueCache (test_universe provider.now.requirements.items provider.now.constraints.items) cache.new }
+    ensures reading { OnOk result (IsReading (test_universe provider.now.requirements.items provider.now.constraints.items) []
         (notes_in encoding.new)) }
 {
     let mut count: usize = 0;
@@ -311,9 +311,9 @@ fn rounds_of(
     requirements: &[ConditionalRequirement],
     turns: &[&[u32]],
 ) -> Result<Vec<Round>, Interrupted<u8>>
-    requires is_true { IsTrueCache (test_universe provider.now.endless provider.now.requirements.items provider.now.constraints.items) cache.old }
+    requires is_true { IsTrueCache (test_universe provider.now.requirements.items provider.now.constraints.items) cache.old }
     requires nothing_read { IsUnread (notes_in encoding.old) }
-    ensures { IsTrueCache (test_universe provider.now.endless provider.now.requirements.items provider.now.constraints.items) cache.new }
+    ensures { IsTrueCache (test_universe provider.now.requirements.items provider.now.constraints.items) cache.new }
 {
     encoding.read_root(provider, cache, requirements, &[])?;
     let mut rounds = Vec::new(provider.alloc);
@@ -340,25 +340,20 @@ fn register_all<
 }
 
 /// Returns whether a clause has these literals, in order.
-fn is_clause(
-    alloc: Global,
-    encoding: &Encoding<u32, u32>,
-    number: usize,
-    wanted: Literals<'_>,
-) -> bool {
+fn is_clause(encoding: &Encoding<u32, u32>, number: usize, wanted: Literals<'_>) -> bool {
     let clauses = encoding.literals();
     if clauses.len() <= number {
         return false;
     }
-    let mut literals = Vec::new(alloc);
-    if clauses.read(number, &mut literals).is_err() || literals.len() != wanted.len() {
+    let literals = clause(clauses, number);
+    if literals.len() != wanted.len() {
         return false;
     }
     for (literal, (origin, positive)) in literals.iter().zip(wanted) {
-        if encoding.variables().origin(literal.variable) != Some(*origin) {
+        if encoding.variables().origin(literal.variable()) != Some(*origin) {
             return false;
         }
-        if literal.positive != *positive {
+        if literal.is_positive() != *positive {
             return false;
         }
     }
@@ -366,13 +361,9 @@ fn is_clause(
 }
 
 /// Returns whether each of these clauses has its number.
-fn are_clauses(
-    alloc: Global,
-    encoding: &Encoding<u32, u32>,
-    wanted: &[(usize, Literals<'_>)],
-) -> bool {
+fn are_clauses(encoding: &Encoding<u32, u32>, wanted: &[(usize, Literals<'_>)]) -> bool {
     for (number, literals) in wanted {
-        if !is_clause(alloc, encoding, *number, literals) {
+        if !is_clause(encoding, *number, literals) {
             return false;
         }
     }
@@ -436,9 +427,9 @@ fn are_done(
     cache: &mut Cache<u32, u32>,
     case: &Case<'_>,
 ) -> bool
-    requires is_true { IsTrueCache (test_universe provider.now.endless provider.now.requirements.items provider.now.constraints.items) cache.old }
+    requires is_true { IsTrueCache (test_universe provider.now.requirements.items provider.now.constraints.items) cache.old }
     requires nothing_read { IsUnread (notes_in encoding.old) }
-    ensures { IsTrueCache (test_universe provider.now.endless provider.now.requirements.items provider.now.constraints.items) cache.new }
+    ensures { IsTrueCache (test_universe provider.now.requirements.items provider.now.constraints.items) cache.new }
 {
     match &case.steps {
         Steps::Root => encoding
@@ -485,7 +476,7 @@ fn are_done(
 }
 
 /// Returns whether the encoding has the expected state.
-fn is_there_then(alloc: Global, encoding: &Encoding<u32, u32>, case: &Case<'_>) -> bool {
+fn is_there_then(encoding: &Encoding<u32, u32>, case: &Case<'_>) -> bool {
     let count = match case.count {
         Some(count) => encoding.clause_count() == count,
         None => true,
@@ -495,7 +486,7 @@ fn is_there_then(alloc: Global, encoding: &Encoding<u32, u32>, case: &Case<'_>) 
         None => true,
     };
     let clauses = match case.clauses {
-        Some(clauses) => are_clauses(alloc, encoding, clauses),
+        Some(clauses) => are_clauses(encoding, clauses),
         None => true,
     };
     count & asked & clauses
@@ -512,11 +503,11 @@ fn holds_within(
     case: &Case<'_>,
 ) -> bool
     requires limits { limits.0 ≤ 2 ^ 31 }
-    requires is_true { IsTrueCache (test_universe provider.now.endless provider.now.requirements.items provider.now.constraints.items) cache.old }
-    ensures { IsTrueCache (test_universe provider.now.endless provider.now.requirements.items provider.now.constraints.items) cache.new }
+    requires is_true { IsTrueCache (test_universe provider.now.requirements.items provider.now.constraints.items) cache.old }
+    ensures { IsTrueCache (test_universe provider.now.requirements.items provider.now.constraints.items) cache.new }
 {
     let mut encoding = Encoding::new(alloc, limits.0, limits.1);
-    are_done(&mut encoding, provider, cache, case) & is_there_then(alloc, &encoding, case)
+    are_done(&mut encoding, provider, cache, case) & is_there_then(&encoding, case)
 }
 
 /// Returns whether a test succeeds, within these limits.

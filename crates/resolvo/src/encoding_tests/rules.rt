@@ -1,30 +1,20 @@
 //! Rules of small cores, worked out by hand.
 
-ghost use Rattle.std.specs.Prelude.{All, OnOk, length, ◌<◌, ◌+◌, ◌≡◌};
+ghost use Rattle.std.specs.Prelude.{All, length, ◌<◌};
 
 use crate::test_provider::TestProvider;
 use resolver_clause_store::{
     By, Cache, ClauseKind, Interrupted, Origin, Requirement, VersionSetId,
 };
-use resolver_encoding::{ClauseKinds, rules_of_clauses};
+use resolver_encoding::rules_of_clauses;
 use resolver_report::Rule;
-use std::alloc::{AllocError, Global};
+use std::alloc::Global;
 use std::cell::Cell;
 use std::test::Fail;
 
 type Kind = ClauseKind<u32, u32>;
 
 const BOTH: Requirement = Requirement::Single(VersionSetId(20));
-
-/// Appends kinds to a list of kinds.
-fn add_all(kinds: &mut ClauseKinds<u32, u32>, more: Vec<Kind>) -> Result<(), AllocError>
-    ensures { OnOk result (length kinds.new ≡ length kinds.old + length more.items) }
-{
-    'kinds: for kind in more {
-        kinds.push(kind)?;
-    }
-    Ok(())
-}
 
 /// Returns the rules of a core over a provider that states nothing.
 fn rules_of(
@@ -34,18 +24,15 @@ fn rules_of(
 ) -> Result<Vec<Rule<u32, u32>>, Interrupted<u8>>
     requires { All (λ n. n < length list.items) core.now }
 {
-    let mut kinds = ClauseKinds::new(alloc);
-    add_all(&mut kinds, list)?;
     let provider = TestProvider {
         alloc,
         requirements: Vec::new(alloc),
         constraints: Vec::new(alloc),
         cancelling: Cell::new(0),
         log: Cell::new(0),
-        endless: false,
     };
     let mut cache = Cache::new(alloc);
-    rules_of_clauses(alloc, &provider, &mut cache, &kinds, core)
+    rules_of_clauses(alloc, &provider, &mut cache, &list, core)
 }
 
 /// Returns whether the rule is a requirement of both versions of package 2 without a condition.

@@ -5,7 +5,7 @@ ghost use Rattle.std.specs.Prelude.{◌≡◌, ◌≢◌, ◌⊎◌, ◌<◌, �
 ghost use Rattle.resolver_clause_store.specs.Formula.{IsBelow};
 ghost use Rattle.resolver_clause_store.specs.TrailView.{slot_of, variable_count};
 ghost use Rattle.resolver_clause_store.specs.declared.Slot.{Slot};
-ghost use Rattle.resolver_clause_store.specs.declared.Literal.{Literal};
+ghost use Rattle.resolver_clause_store.specs.Literals.{Literal};
 ghost use Rattle.resolvo.specs.Resolvents.{AddsNegation, ListsMarks, age_in};
 ghost use Rattle.resolvo.specs.Resolvents.{Negates, level_in};
 
@@ -40,10 +40,7 @@ pub fn add_negation(
     }
     match trail.slot(variable) {
         Some(slot) => {
-            literals.push(Literal {
-                variable,
-                positive: !slot.value,
-            })?;
+            literals.push(Literal::new(variable, !slot.value))?;
             Ok(())
         }
         None => Ok(()),
@@ -76,8 +73,8 @@ pub fn backtrack_level(trail: &Trail, literals: &[Literal], asserted: Variable) 
 {
     let mut level = 0;
     'literals: for literal in literals {
-        if literal.variable != asserted {
-            level = level_at(trail, literal.variable).max(level);
+        if literal.variable() != asserted {
+            level = level_at(trail, literal.variable()).max(level);
         }
     }
     level
@@ -89,14 +86,8 @@ pub fn negation_of(trail: &Trail, variable: Variable) -> Literal
     ensures { (slot : Slot) → slot_of trail.now variable ≡ Some slot → result ≡ record { variable = variable; positive = not slot.value } }
 {
     match trail.slot(variable) {
-        Some(slot) => Literal {
-            variable,
-            positive: !slot.value,
-        },
-        None => Literal {
-            variable,
-            positive: false,
-        },
+        Some(slot) => Literal::new(variable, !slot.value),
+        None => Literal::new(variable, false),
     }
 }
 
@@ -105,17 +96,17 @@ pub fn asserted_level(trail: &Trail, learnt: &Learnt) -> usize
     requires { learnt.now.literal.variable < variable_count trail.now }
     ensures { result ≡ level_in trail.now learnt.now.literal.variable }
 {
-    level_at(trail, learnt.literal.variable)
+    level_at(trail, learnt.literal.variable())
 }
 
 /// Returns the number of places on the trail from that of the literal's variable on. Without a value, it counts as at the first place.
 fn age_of(trail: &Trail, literal: Literal) -> usize
     ensures { result ≡ age_in trail.now literal }
 {
-    if literal.variable.index() >= trail.variable_count() {
+    if literal.variable().index() >= trail.variable_count() {
         return trail.len();
     }
-    match trail.slot(literal.variable) {
+    match trail.slot(literal.variable()) {
         Some(slot) => trail.len().saturating_sub(slot.place as usize),
         None => trail.len(),
     }

@@ -1,11 +1,10 @@
 //! Minimization: the literals of a learnt clause that its others imply.
 
 ghost use Rattle.std.specs.Prelude.{◌≡◌, ◌<◌, IfSome, OnOk, Some, true};
-ghost use Rattle.resolver_clause_store.specs.Formula.{AreBelow};
-ghost use Rattle.resolver_clause_store.specs.TrailView.{length_of, variable_at, variable_count};
+ghost use Rattle.resolver_clause_store.specs.TrailView.{variable_count};
 ghost use Rattle.resolvo.specs.Propagation.{IsJustified};
-ghost use Rattle.resolver_clause_store.specs.declared.Literal.{Literal};
-ghost use Rattle.resolvo.specs.Resolvents.{AllBefore, IsReason, IsResolvent, IsSingle};
+ghost use Rattle.resolver_clause_store.specs.Literals.{Literal};
+ghost use Rattle.resolvo.specs.Resolvents.{AllBefore, IsReason, IsResolvent, IsSingle, IsResolved};
 
 use super::clause::{literals_of, sort_by_age};
 use super::resolve::{Resolvent, resolve};
@@ -30,7 +29,7 @@ fn forced_by(trail: &Trail, variable: Variable) -> Option<usize>
 /// Returns whether all variables of a clause but this one are marked.
 fn are_others_marked(marks: &[bool], clause: &[Literal], variable: Variable) -> bool {
     clause.iter().all(|literal| {
-        literal.variable == variable || marks.get(literal.variable.index()) == Some(&true)
+        literal.variable() == variable || marks.get(literal.variable().index()) == Some(&true)
     })
 }
 
@@ -58,13 +57,9 @@ fn drop_implied(
     resolvent: &mut Resolvent,
     variable: Variable,
 ) -> Result<(), AllocError>
-    requires below { AreBelow (variable_count trail.now) table.now }
-    requires justified { IsJustified table.now trail.now }
-    requires resolvent { IsResolvent table.now trail.now resolvent.old }
-    requires inside { resolvent.old.lowest < length_of trail.now }
-    requires single { IsSingle trail.now resolvent.old.marks.items resolvent.old.level (variable_at trail.now resolvent.old.lowest) }
-    ensures resolvent { OnOk result (IsResolvent table.now trail.now resolvent.new) }
-    ensures single { OnOk result (IsSingle trail.now resolvent.new.marks.items resolvent.new.level (variable_at trail.now resolvent.new.lowest)) }
+    requires resolved { IsResolved table.now trail.now resolvent.old }
+    requires some { 0 < resolvent.old.level }
+    ensures resolved { OnOk result (IsResolved table.now trail.now resolvent.new) }
     ensures level { OnOk result (resolvent.new.level ≡ resolvent.old.level) }
     ensures lowest { OnOk result (resolvent.new.lowest ≡ resolvent.old.lowest) }
 {
@@ -91,18 +86,8 @@ pub fn minimize(
     trail: &Trail,
     resolvent: &mut Resolvent,
 ) -> Result<(), AllocError>
-    requires below { AreBelow (variable_count trail.now) table.now }
-    requires justified { IsJustified table.now trail.now }
-    requires resolvent { IsResolvent table.now trail.now resolvent.old }
-    requires single { 0 < resolvent.old.level →
-        IsSingle trail.now resolvent.old.marks.items resolvent.old.level (variable_at trail.now resolvent.old.lowest) }
-    requires inside { 0 < resolvent.old.level → resolvent.old.lowest < length_of trail.now }
-    requires none { resolvent.old.level ≡ 0 → AllBefore trail.now resolvent.old.marks.items 0 }
-    ensures resolvent { OnOk result (IsResolvent table.now trail.now resolvent.new) }
-    ensures single { OnOk result (0 < resolvent.new.level →
-        IsSingle trail.now resolvent.new.marks.items resolvent.new.level (variable_at trail.now resolvent.new.lowest)) }
-    ensures inside { OnOk result (0 < resolvent.new.level → resolvent.new.lowest < length_of trail.now) }
-    ensures none { OnOk result (resolvent.new.level ≡ 0 → AllBefore trail.now resolvent.new.marks.items 0) }
+    requires { IsResolved table.now trail.now resolvent.old }
+    ensures { OnOk result (IsResolved table.now trail.now resolvent.new) }
 {
     if resolvent.level == 0 {
         return Ok(());
@@ -115,7 +100,7 @@ pub fn minimize(
     )?;
     sort_by_age(trail, &mut literals);
     'implied: for index in 0..literals.len() {
-        drop_implied(table, trail, resolvent, literals[index].variable)?;
+        drop_implied(table, trail, resolvent, literals[index].variable())?;
     }
     Ok(())
 }

@@ -1,12 +1,12 @@
 //! Resolution: the variables whose values contradict the causes of a conflict, down to a single one of the highest level.
 
-ghost use Rattle.std.specs.Prelude.{◌≡◌, ◌≢◌, ◌⊎◌, ◌+◌, ◌<◌, ◌≤◌, length, All, Any, IfOk, MatchBool, OnOk, Some, false, not, slice_set, true};
+ghost use Rattle.std.specs.Prelude.{◌≡◌, ◌≢◌, ◌⊎◌, ◌+◌, ◌<◌, ◌≤◌, length, All, Any, IfOk, MatchBool, OnOk, false, slice_set, true};
 ghost use Rattle.resolver_clause_store.specs.Formula.{AreBelow, IsBelow, clause_at};
-ghost use Rattle.resolver_clause_store.specs.TrailView.{length_of, place_of, slot_of, variable_at, variable_count};
+ghost use Rattle.resolver_clause_store.specs.TrailView.{length_of, place_of, variable_count};
 ghost use Rattle.resolvo.specs.Propagation.{IsConflict, IsJustified};
 ghost use Rattle.resolver_clause_store.specs.declared.Slot.{Slot};
-ghost use Rattle.resolver_clause_store.specs.declared.Literal.{Literal};
-ghost use Rattle.resolvo.specs.Resolvents.{AllBefore, IsLevelled, IsReason, IsReplaced, IsResolvent, IsSingle, IsUnmarked, ListsMarks, MarksAlso};
+ghost use Rattle.resolver_clause_store.specs.Literals.{Literal};
+ghost use Rattle.resolvo.specs.Resolvents.{AllBefore, IsLevelled, IsReason, IsReplaced, IsResolvent, IsSingle, IsUnmarked, ListsMarks, MarksAlso, IsNotBefore, IsResolved};
 ghost use Rattle.resolvo.specs.Resolvents.{StandsAt, level_in, is_marked};
 
 use resolver_clause_store::{Clauses, Literal, Reason, Trail, Variable, clause};
@@ -91,7 +91,7 @@ pub fn mark_all(
     ensures listed { OnOk result (ListsMarks marks.old.items marked.old.items → ListsMarks marks.new.items marked.new.items) }
 {
     'literals: for literal in clause {
-        mark(marks, marked, literal.variable)?;
+        mark(marks, marked, literal.variable())?;
     }
     Ok(())
 }
@@ -126,7 +126,7 @@ pub fn highest_level(trail: &Trail, clause: &[Literal]) -> usize
 {
     let mut level = 0;
     'literals: for literal in clause {
-        level = level_at(trail, literal.variable).max(level);
+        level = level_at(trail, literal.variable()).max(level);
     }
     level
 }
@@ -135,7 +135,7 @@ pub fn highest_level(trail: &Trail, clause: &[Literal]) -> usize
 pub fn lower_place(trail: &Trail, variable: Variable, level: usize, lowest: usize) -> usize
     requires { variable < variable_count trail.now }
     ensures low { result ≤ lowest }
-    ensures least { (slot : Slot) → slot_of trail.now variable ≡ Some slot → slot.level ≡ level → result ≤ slot.place }
+    ensures least { IsNotBefore trail.now level result variable }
     ensures reached { (result ≡ lowest) ⊎ StandsAt trail.now level result variable }
 {
     match trail.slot(variable) {
@@ -154,13 +154,12 @@ pub fn lower_place(trail: &Trail, variable: Variable, level: usize, lowest: usiz
 pub fn lowest_place(trail: &Trail, clause: &[Literal], level: usize, start: usize) -> usize
     requires { IsBelow (variable_count trail.now) clause.now }
     ensures low { result ≤ start }
-    ensures least { All (λ (literal : Literal).
-        (slot : Slot) → slot_of trail.now literal.variable ≡ Some slot → slot.level ≡ level → result ≤ slot.place) clause.now }
+    ensures least { All (λ (literal : Literal). IsNotBefore trail.now level result literal.variable) clause.now }
     ensures reached { (result ≡ start) ⊎ Any (λ (literal : Literal). StandsAt trail.now level result literal.variable) clause.now }
 {
     let mut lowest = start;
     'literals: for literal in clause {
-        lowest = lower_place(trail, literal.variable, level, lowest);
+        lowest = lower_place(trail, literal.variable(), level, lowest);
     }
     lowest
 }
@@ -174,6 +173,7 @@ pub fn begin(
     number: usize,
 ) -> Result<Resolvent, AllocError>
     requires below { AreBelow (variable_count trail.now) table.now }
+    requires justified { IsJustified table.now trail.now }
     requires conflict { IsConflict trail.now table.now number }
     requires size { length blank.items ≡ variable_count trail.now }
     requires blank { IsUnmarked blank.items }
@@ -204,8 +204,6 @@ pub fn resolve(
     variable: Variable,
     number: usize,
 ) -> Result<(), AllocError>
-    requires below { AreBelow (variable_count trail.now) table.now }
-    requires justified { IsJustified table.now trail.now }
     requires reason { IsReason trail.now variable number }
     requires resolvent { IsResolvent table.now trail.now resolvent.old }
     ensures resolvent { OnOk result (IsResolvent table.now trail.now resolvent.new) }
@@ -228,8 +226,6 @@ pub fn resolve_last(
     variable: Variable,
     number: usize,
 ) -> Result<(), AllocError>
-    requires below { AreBelow (variable_count trail.now) table.now }
-    requires justified { IsJustified table.now trail.now }
     requires reason { IsReason trail.now variable number }
     requires resolvent { IsResolvent table.now trail.now resolvent.old }
     requires levelled { IsLevelled trail.now resolvent.old (place_of trail.now variable + 1) }
@@ -261,15 +257,9 @@ pub fn resolve_level(
     trail: &Trail,
     resolvent: &mut Resolvent,
 ) -> Result<(), AllocError>
-    requires below { AreBelow (variable_count trail.now) table.now }
-    requires justified { IsJustified table.now trail.now }
     requires resolvent { IsResolvent table.now trail.now resolvent.old }
     requires levelled { IsLevelled trail.now resolvent.old (length_of trail.now) }
-    ensures resolvent { OnOk result (IsResolvent table.now trail.now resolvent.new) }
-    ensures inside { OnOk result (0 < resolvent.new.level → resolvent.new.lowest < length_of trail.now) }
-    ensures single { OnOk result (0 < resolvent.new.level →
-        IsSingle trail.now resolvent.new.marks.items resolvent.new.level (variable_at trail.now resolvent.new.lowest)) }
-    ensures none { OnOk result (resolvent.new.level ≡ 0 → AllBefore trail.now resolvent.new.marks.items 0) }
+    ensures { OnOk result (IsResolved table.now trail.now resolvent.new) }
 {
     let mut place = trail.len();
     'places: while place > 0 {

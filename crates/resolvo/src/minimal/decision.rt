@@ -1,11 +1,11 @@
 //! Decides by a search over clauses whether a set obeys the marked rules.
 
-ghost use Rattle.std.specs.Prelude.{[], ◌++◌, ◌<◌, ◌≤◌, ◌≡◌, ◌∷◌, ℕ, All, Bool, IfErr, IfOk, IfSome, List, OnOk, Vec, length};
+ghost use Rattle.std.specs.Prelude.{[], ◌++◌, ◌<◌, ◌≤◌, ◌≡◌, ◌∷◌, All, Bool, IfErr, IfOk, IfSome, List, OnOk, Vec, length};
 ghost use Rattle.std.specs.declared.alloc.Global.{Global};
 ghost use Rattle.resolver_clause_store.specs.TrailView.{variable_count};
-ghost use Rattle.resolver_clause_store.specs.declared.Literal.{Literal};
+ghost use Rattle.resolver_clause_store.specs.Literals.{Literal};
 ghost use Rattle.resolvo.specs.ClauseSearches.{IsConsistent, IsLoaded, IsRootTurn, numbers_of, trail_of};
-ghost use Rattle.resolvo.specs.MarkedClauses.{AreMarkedClauses, AreMarksOf, EndsWith, IsMarked, VerdictIs};
+ghost use Rattle.resolvo.specs.MarkedClauses.{AddsMarkedClause, AreMarksOf, HasEnded, HoldsMarked, IsMarked, VerdictIs};
 ghost use Rattle.resolvo.specs.RuleClauses.{DecideRules};
 ghost use Rattle.resolvo.specs.declared.minimal.rule_clauses.RuleClause.{RuleClause};
 
@@ -13,10 +13,9 @@ use super::no_packages::NoPackages;
 use super::rule_clauses::{RuleClause, RuleClauses};
 use crate::clause_search::{ClauseSearch, Outcome};
 use resolver_clause_store::{
-    Activity, Exhausted, Interrupted, Literal, RequirementClause, Rule, Trail, UnionEnds, Variable,
-    narrow,
+    Activity, Clauses, Exhausted, Interrupted, Literal, RequirementClause, Rule, Trail, UnionEnds,
+    Variable, narrow,
 };
-use resolver_encoding::ClauseRuns;
 use std::alloc::{AllocError, Global};
 use std::mem::drop;
 
@@ -32,7 +31,7 @@ pub enum Verdict {
 /// The clauses of the marked rules, in the form that a search takes.
 #[derive(Drop)]
 pub struct MarkedClauses {
-    pub clauses: ClauseRuns,
+    pub clauses: Clauses,
     /// For each clause, the place of its rule.
     pub places: Vec<usize>,
     /// The clauses whose candidates are to be tried.
@@ -58,9 +57,7 @@ fn add_requirement(
 
 /// Appends a clause of a marked rule.
 fn add_clause(marked: &mut MarkedClauses, clause: &RuleClause) -> Result<(), AllocError>
-    ensures { OnOk result ((marks : List Bool) (from : List RuleClause) → IsMarked marks clause.now →
-        AreMarkedClauses marks from marked.old.clauses marked.old.places.items (numbers_of marked.old.requirements.items) →
-        AreMarkedClauses marks (from ++ clause.now ∷ []) marked.new.clauses marked.new.places.items (numbers_of marked.new.requirements.items)) }
+    ensures { OnOk result ((marks : List Bool) → IsMarked marks clause.now → AddsMarkedClause marks marked.old marked.new clause.now) }
 {
     let number = marked.clauses.len();
     marked.clauses.push(&clause.literals)?;
@@ -79,9 +76,7 @@ fn add_marked(
     marks: &[bool],
 ) -> Result<(), AllocError>
     requires { clause.now.rule < length marks.now }
-    ensures { OnOk result ((from : List RuleClause) →
-        AreMarkedClauses marks.now from marked.old.clauses marked.old.places.items (numbers_of marked.old.requirements.items) →
-        AreMarkedClauses marks.now (from ++ clause.now ∷ []) marked.new.clauses marked.new.places.items (numbers_of marked.new.requirements.items)) }
+    ensures { OnOk result (AddsMarkedClause marks.now marked.old marked.new clause.now) }
 {
     if !marks[clause.rule] {
         return Ok(());
@@ -97,10 +92,10 @@ pub fn marked_clauses(
     marks: &[bool],
 ) -> Result<MarkedClauses, AllocError>
     requires { All (λ (clause : RuleClause). clause.rule < length marks.now) clauses.now }
-    ensures { IfOk result (λ marked. AreMarkedClauses marks.now clauses.now marked.clauses marked.places.items (numbers_of marked.requirements.items)) }
+    ensures { IfOk result (HoldsMarked marks.now clauses.now) }
 {
     let mut marked = MarkedClauses {
-        clauses: ClauseRuns::new(alloc),
+        clauses: Clauses::new(alloc),
         places: Vec::new(alloc),
         requirements: Vec::new(alloc),
         union_ends: UnionEnds::new(alloc),
@@ -133,16 +128,11 @@ pub fn marks_of(
 fn is_set(trail: &Trail, number: usize) -> bool
     requires { number < variable_count trail.now }
 {
-    match u32::try_from(number) {
-        Ok(index) => {
-            let literal = Literal {
-                variable: Variable::new(index),
-                positive: true,
-            };
-            trail.value(literal) == Some(true)
-        }
-        Err(_) => false,
+    if number >= 1 << 31 {
+        return false;
     }
+    let literal = Literal::new(Variable::new(number as u32), true);
+    trail.value(literal) == Some(true)
 }
 
 /// Returns the values of the first variables. A variable without a value counts as false.
@@ -164,8 +154,7 @@ fn search_on(
 ) -> Result<Outcome, Exhausted>
     requires consistent { IsConsistent search.old }
     requires root { IsRootTurn search.old }
-    ensures outcome { IfOk result (λ outcome.
-        (given : List (List Literal)) (numbers : List ℕ) → IsLoaded given numbers search.old → EndsWith given numbers (trail_of search.new) outcome) }
+    ensures outcome { IfOk result (HasEnded search.old search.new) }
     ensures variables { IfOk result (λ outcome. outcome ≡ Outcome.Finished → variable_count (trail_of search.new) ≡ variable_count (trail_of search.old)) }
     ensures memory { IfErr result (λ e. e ≡ Exhausted.Memory) }
 {
@@ -178,7 +167,6 @@ fn search_on(
 
 /// Decides by a new search over the clauses of the marked rules.
 fn decide_by<N, S>(
-    alloc: Global,
     search: &mut ClauseSearch,
     rules: &[Rule<N, S>],
     form: &RuleClauses,
@@ -192,13 +180,12 @@ fn decide_by<N, S>(
     requires root { IsRootTurn search.old }
     requires size { length marks.now ≡ length rules.now }
     requires form { DecideRules rules.now form.now.variables form.now.clauses.items }
-    requires marked { AreMarkedClauses marks.now form.now.clauses.items marked.now.clauses marked.now.places.items
-        (numbers_of marked.now.requirements.items) }
+    requires marked { HoldsMarked marks.now form.now.clauses.items marked.now }
     ensures verdict { IfOk result (λ answer. IfSome answer (VerdictIs rules.now marks.now)) }
     ensures memory { IfErr result (λ e. e ≡ Exhausted.Memory) }
 {
+    let alloc = *form.clauses.allocator();
     search.load(
-        alloc,
         form.variables,
         &marked.clauses,
         &marked.requirements,
@@ -234,15 +221,7 @@ pub fn decide<N, S>(
 {
     let marked = marked_clauses(alloc, &form.clauses, marks)?;
     let mut search = ClauseSearch::new(alloc, Activity::standard());
-    let verdict = decide_by(
-        alloc,
-        &mut search,
-        rules,
-        form,
-        marks,
-        &marked,
-        learnt_limit,
-    );
+    let verdict = decide_by(&mut search, rules, form, marks, &marked, learnt_limit);
     drop(search);
     drop(marked);
     Ok(verdict?)

@@ -1,7 +1,8 @@
 //! A provider without packages, for a clause search that is never stopped.
 
 ghost use Rattle.std.specs.Prelude.{refl};
-ghost use Rattle.resolvo.specs.NoPackages.{empty_ids_lawful, empty_packages_lawful, empty_universe, numbers_are_values};
+ghost use Rattle.resolver_clause_store.specs.Laws.{numbers_are_values};
+ghost use Rattle.resolvo.specs.NoPackages.{empty_ids_lawful, empty_packages_lawful, empty_universe};
 
 use resolver_clause_store::{
     Candidates, Condition, ConditionId, Dependencies, DependencyProvider, Exhausted, Interner,

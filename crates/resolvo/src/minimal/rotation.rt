@@ -23,9 +23,9 @@ struct NearModel {
 fn is_true(values: &[bool], literal: Literal) -> bool
     ensures { result ≡ literal_true (value_at values.now) literal }
 {
-    match values.get(literal.variable.index()) {
-        Some(value) => *value == literal.positive,
-        None => !literal.positive,
+    match values.get(literal.variable().index()) {
+        Some(value) => *value == literal.is_positive(),
+        None => !literal.is_positive(),
     }
 }
 
@@ -101,9 +101,9 @@ fn width_of(clauses: &[RuleClause], near: &NearModel) -> usize {
 
 /// Makes a literal true, if its variable has a value.
 fn make_true(values: &mut Vec<bool>, literal: Literal) {
-    let index = literal.variable.index();
+    let index = literal.variable().index();
     if index < values.len() {
-        values[index] = literal.positive;
+        values[index] = literal.is_positive();
     }
 }
 

@@ -1,14 +1,12 @@
 //! The clauses of a list of rules.
 
-ghost use Rattle.std.specs.Prelude.{[], ◌∷◌, ◌++◌, ◌≡◌, ◌≤◌, IfOk, List, OnOk, Some, false, length, slice_get};
+ghost use Rattle.std.specs.Prelude.{[], ◌∷◌, ◌++◌, ◌≡◌, ◌≤◌, IfOk, OnOk, Some, false, length, slice_get};
 ghost use Rattle.std.specs.List.{AllZip};
 ghost use Rattle.resolver_clause_store.specs.Laws.{IsIdentity};
 ghost use Rattle.resolver_clause_store.specs.Variables.{AreDistinct, Keeps};
-ghost use Rattle.resolver_clause_store.specs.declared.Rule.{Rule};
-ghost use Rattle.resolvo.specs.AddedLines.{Adds};
-ghost use Rattle.resolvo.specs.RuleClauses.{AreClausesOf, DecideRules, IsLiteralOf, all_lines, requirer_atoms, requirement_line, atom, bit_lines};
+ghost use Rattle.resolvo.specs.AddedLines.{AddsLines};
+ghost use Rattle.resolvo.specs.RuleClauses.{ClausesDecide, DecideRules, IsLiteralOf, all_lines, requirer_atoms, requirement_line, requirement_lines, atom, bit_lines};
 ghost use Rattle.resolvo.specs.RuleClauses.{candidate_atoms, condition_lines, lines_of, list_atoms, member_lines, plain};
-ghost use Rattle.resolvo.specs.declared.minimal.rule_clauses.Proposition.{Proposition};
 ghost use Rattle.resolvo.specs.declared.minimal.rule_clauses.Proposition.TheVariants.{Member};
 
 use crate::minimal::rule_codes::{codes_of, count_of, place_among};
@@ -17,6 +15,7 @@ use resolver_clause_store::{By, Exhausted, Literal, Rule, Variable};
 use resolver_encoding::has_digit;
 use std::alloc::{AllocError, Global};
 use std::hash::Hash;
+use std::mem::replace;
 
 /// What a variable stands for.
 #[derive(Clone, Copy, PartialEq, Eq, Hash)]
@@ -53,8 +52,7 @@ pub struct RuleClause {
 fn clauses_decide_rules<N: Eq, S: Eq>()
     requires names { IsIdentity N.eq }
     requires solvables { IsIdentity S.eq }
-    ensures { (rules : List (Rule N S)) (propositions : List (Proposition N S)) (clauses : List RuleClause) → AreClausesOf rules propositions clauses →
-        DecideRules rules (length propositions) clauses }
+    ensures { ClausesDecide N S }
 {}
 
 /// The clauses of a list of rules.
@@ -62,6 +60,13 @@ fn clauses_decide_rules<N: Eq, S: Eq>()
 pub struct RuleClauses {
     /// The number of variables.
     pub variables: usize,
+    pub clauses: Vec<RuleClause>,
+}
+
+/// The clauses that were made so far, and what their variables stand for.
+#[derive(Drop)]
+pub struct RuleDraft<N: Copy + Eq + Hash + Drop, S: Copy + Eq + Hash + Drop> {
+    pub propositions: IndexSet<Proposition<N, S>>,
     pub clauses: Vec<RuleClause>,
 }
 
@@ -76,7 +81,7 @@ fn intern<N: Copy + Eq + Hash + Drop, S: Copy + Eq + Hash + Drop>(
     ensures here { IfOk result (λ v. slice_get propositions.new.keys v ≡ Some proposition) }
 {
     let place = place_among(propositions, proposition)?;
-    if place > u32::MAX as usize {
+    if place >= 1 << 31 {
         return Err(Exhausted::Ids);
     }
     Ok(Variable::new(place as u32))
@@ -105,10 +110,7 @@ fn literal_of<N: Copy + Eq + Hash + Drop, S: Copy + Eq + Hash + Drop>(
     ensures literal { IfOk result (λ made. IsLiteralOf propositions.new.keys made atom) }
 {
     let variable = intern(propositions, atom.proposition)?;
-    Ok(Literal {
-        variable,
-        positive: atom.positive,
-    })
+    Ok(Literal::new(variable, atom.positive))
 }
 
 /// Returns the literals of atoms.
@@ -131,17 +133,16 @@ fn literals_of<N: Copy + Eq + Hash + Drop, S: Copy + Eq + Hash + Drop>(
 
 /// Appends the clause of these atoms, whose candidates are to be tried.
 fn add_requirement_clause<N: Copy + Eq + Hash + Drop, S: Copy + Eq + Hash + Drop>(
-    propositions: &mut IndexSet<Proposition<N, S>>,
-    clauses: &mut Vec<RuleClause>,
+    draft: &mut RuleDraft<N, S>,
     rule: usize,
     atoms: &[Atom<N, S>],
 ) -> Result<(), Exhausted>
     requires names { IsIdentity N.eq }
     requires solvables { IsIdentity S.eq }
-    ensures { OnOk result (Adds propositions.old.keys propositions.new.keys clauses.old.items clauses.new.items (requirement_line rule atoms.now ∷ [])) }
+    ensures { OnOk result (AddsLines draft.old draft.new (requirement_line rule atoms.now ∷ [])) }
 {
-    let literals = literals_of(*clauses.allocator(), propositions, atoms)?;
-    clauses.push(RuleClause {
+    let literals = literals_of(*draft.clauses.allocator(), &mut draft.propositions, atoms)?;
+    draft.clauses.push(RuleClause {
         rule,
         literals,
         is_requirement: true,
@@ -151,18 +152,17 @@ fn add_requirement_clause<N: Copy + Eq + Hash + Drop, S: Copy + Eq + Hash + Drop
 
 /// Appends the clause of one atom.
 fn add_single<N: Copy + Eq + Hash + Drop, S: Copy + Eq + Hash + Drop>(
-    propositions: &mut IndexSet<Proposition<N, S>>,
-    clauses: &mut Vec<RuleClause>,
+    draft: &mut RuleDraft<N, S>,
     rule: usize,
     atom: Atom<N, S>,
 ) -> Result<(), Exhausted>
     requires names { IsIdentity N.eq }
     requires solvables { IsIdentity S.eq }
-    ensures { OnOk result (Adds propositions.old.keys propositions.new.keys clauses.old.items clauses.new.items (plain rule (atom ∷ []) ∷ [])) }
+    ensures { OnOk result (AddsLines draft.old draft.new (plain rule (atom ∷ []) ∷ [])) }
 {
-    let literal = literal_of(propositions, atom)?;
-    let literals = Vec::from_slice(*clauses.allocator(), &[literal])?;
-    clauses.push(RuleClause {
+    let literal = literal_of(&mut draft.propositions, atom)?;
+    let literals = Vec::from_slice(*draft.clauses.allocator(), &[literal])?;
+    draft.clauses.push(RuleClause {
         rule,
         literals,
         is_requirement: false,
@@ -172,20 +172,19 @@ fn add_single<N: Copy + Eq + Hash + Drop, S: Copy + Eq + Hash + Drop>(
 
 /// Appends the clause of two atoms.
 fn add_pair<N: Copy + Eq + Hash + Drop, S: Copy + Eq + Hash + Drop>(
-    propositions: &mut IndexSet<Proposition<N, S>>,
-    clauses: &mut Vec<RuleClause>,
+    draft: &mut RuleDraft<N, S>,
     rule: usize,
     first: Atom<N, S>,
     second: Atom<N, S>,
 ) -> Result<(), Exhausted>
     requires names { IsIdentity N.eq }
     requires solvables { IsIdentity S.eq }
-    ensures { OnOk result (Adds propositions.old.keys propositions.new.keys clauses.old.items clauses.new.items (plain rule (first ∷ second ∷ []) ∷ [])) }
+    ensures { OnOk result (AddsLines draft.old draft.new (plain rule (first ∷ second ∷ []) ∷ [])) }
 {
-    let left = literal_of(propositions, first)?;
-    let right = literal_of(propositions, second)?;
-    let literals = Vec::from_slice(*clauses.allocator(), &[left, right])?;
-    clauses.push(RuleClause {
+    let left = literal_of(&mut draft.propositions, first)?;
+    let right = literal_of(&mut draft.propositions, second)?;
+    let literals = Vec::from_slice(*draft.clauses.allocator(), &[left, right])?;
+    draft.clauses.push(RuleClause {
         rule,
         literals,
         is_requirement: false,
@@ -195,15 +194,14 @@ fn add_pair<N: Copy + Eq + Hash + Drop, S: Copy + Eq + Hash + Drop>(
 
 /// Appends the clauses of a list's members.
 fn add_members<N: Copy + Eq + Hash + Drop, S: Copy + Eq + Hash + Drop>(
-    propositions: &mut IndexSet<Proposition<N, S>>,
-    clauses: &mut Vec<RuleClause>,
+    draft: &mut RuleDraft<N, S>,
     rule: usize,
     list: usize,
     members: &[S],
 ) -> Result<(), Exhausted>
     requires names { IsIdentity N.eq }
     requires solvables { IsIdentity S.eq }
-    ensures { OnOk result (Adds propositions.old.keys propositions.new.keys clauses.old.items clauses.new.items (member_lines rule list members.now)) }
+    ensures { OnOk result (AddsLines draft.old draft.new (member_lines rule list members.now)) }
 {
     for member in members {
         let absent = Atom {
@@ -214,32 +212,30 @@ fn add_members<N: Copy + Eq + Hash + Drop, S: Copy + Eq + Hash + Drop>(
             proposition: Proposition::Listed { rule, list },
             positive: true,
         };
-        add_pair(propositions, clauses, rule, absent, listed)?;
+        add_pair(draft, rule, absent, listed)?;
     }
     Ok(())
 }
 
 /// Appends the clauses of the lists of a condition.
 fn add_condition<N: Copy + Eq + Hash + Drop, S: Copy + Eq + Hash + Drop>(
-    propositions: &mut IndexSet<Proposition<N, S>>,
-    clauses: &mut Vec<RuleClause>,
+    draft: &mut RuleDraft<N, S>,
     rule: usize,
     when: &[Vec<S>],
 ) -> Result<(), Exhausted>
     requires names { IsIdentity N.eq }
     requires solvables { IsIdentity S.eq }
-    ensures { OnOk result (Adds propositions.old.keys propositions.new.keys clauses.old.items clauses.new.items (condition_lines rule 0 when.now)) }
+    ensures { OnOk result (AddsLines draft.old draft.new (condition_lines rule 0 when.now)) }
 {
     for list in 0..when.len() {
-        add_members(propositions, clauses, rule, list, &when[list])?;
+        add_members(draft, rule, list, &when[list])?;
     }
     Ok(())
 }
 
 /// Appends the clauses of an instance, one for each bit of its code.
 fn add_bits<N: Copy + Eq + Hash + Drop, S: Copy + Eq + Hash + Drop>(
-    propositions: &mut IndexSet<Proposition<N, S>>,
-    clauses: &mut Vec<RuleClause>,
+    draft: &mut RuleDraft<N, S>,
     rule: usize,
     name: N,
     instance: S,
@@ -249,7 +245,7 @@ fn add_bits<N: Copy + Eq + Hash + Drop, S: Copy + Eq + Hash + Drop>(
     requires names { IsIdentity N.eq }
     requires solvables { IsIdentity S.eq }
     requires width { width ≤ 64 }
-    ensures { OnOk result (Adds propositions.old.keys propositions.new.keys clauses.old.items clauses.new.items (bit_lines rule name instance code width)) }
+    ensures { OnOk result (AddsLines draft.old draft.new (bit_lines rule name instance code width)) }
 {
     for index in 0..width {
         let absent = Atom {
@@ -260,7 +256,7 @@ fn add_bits<N: Copy + Eq + Hash + Drop, S: Copy + Eq + Hash + Drop>(
             proposition: Proposition::Bit { name, index },
             positive: has_digit(code, index),
         };
-        add_pair(propositions, clauses, rule, absent, bit)?;
+        add_pair(draft, rule, absent, bit)?;
     }
     Ok(())
 }
@@ -334,8 +330,7 @@ fn requirement_atoms<N: Copy, S: Copy>(
 
 /// Appends the clauses of a requirement.
 fn add_requirement<N: Copy + Eq + Hash + Drop, S: Copy + Eq + Hash + Drop>(
-    propositions: &mut IndexSet<Proposition<N, S>>,
-    clauses: &mut Vec<RuleClause>,
+    draft: &mut RuleDraft<N, S>,
     rule: usize,
     by: By<S>,
     candidates: &[S],
@@ -343,28 +338,24 @@ fn add_requirement<N: Copy + Eq + Hash + Drop, S: Copy + Eq + Hash + Drop>(
 ) -> Result<(), Exhausted>
     requires names { IsIdentity N.eq }
     requires solvables { IsIdentity S.eq }
-    ensures { OnOk result (Adds propositions.old.keys propositions.new.keys clauses.old.items clauses.new.items
-        (requirement_line rule (requirer_atoms by ++ (list_atoms rule (length when.now) ++ candidate_atoms candidates.now)) ∷
-        condition_lines rule 0 when.now)) }
+    ensures { OnOk result (AddsLines draft.old draft.new (requirement_lines rule by candidates.now when.now)) }
 {
-    let atoms = requirement_atoms(*clauses.allocator(), rule, by, when.len(), candidates)?;
-    add_requirement_clause(propositions, clauses, rule, &atoms)?;
-    add_condition(propositions, clauses, rule, when)?;
+    let atoms = requirement_atoms(*draft.clauses.allocator(), rule, by, when.len(), candidates)?;
+    add_requirement_clause(draft, rule, &atoms)?;
+    add_condition(draft, rule, when)?;
     Ok(())
 }
 
 /// Appends the clause of a constraint: the requirer is not in the set, or the candidate is not.
 fn add_constraint<N: Copy + Eq + Hash + Drop, S: Copy + Eq + Hash + Drop>(
-    propositions: &mut IndexSet<Proposition<N, S>>,
-    clauses: &mut Vec<RuleClause>,
+    draft: &mut RuleDraft<N, S>,
     rule: usize,
     by: By<S>,
     candidate: S,
 ) -> Result<(), Exhausted>
     requires names { IsIdentity N.eq }
     requires solvables { IsIdentity S.eq }
-    ensures { OnOk result (Adds propositions.old.keys propositions.new.keys clauses.old.items clauses.new.items
-        (plain rule (requirer_atoms by ++ atom (Member candidate) false ∷ []) ∷ [])) }
+    ensures { OnOk result (AddsLines draft.old draft.new (plain rule (requirer_atoms by ++ atom (Member candidate) false ∷ []) ∷ [])) }
 {
     let excluded = Atom {
         proposition: Proposition::Member(candidate),
@@ -372,7 +363,7 @@ fn add_constraint<N: Copy + Eq + Hash + Drop, S: Copy + Eq + Hash + Drop>(
     };
     match by {
         By::Root => {
-            add_single(propositions, clauses, rule, excluded)?;
+            add_single(draft, rule, excluded)?;
             Ok(())
         }
         By::Solvable(solvable) => {
@@ -380,7 +371,7 @@ fn add_constraint<N: Copy + Eq + Hash + Drop, S: Copy + Eq + Hash + Drop>(
                 proposition: Proposition::Member(solvable),
                 positive: false,
             };
-            add_pair(propositions, clauses, rule, absent, excluded)?;
+            add_pair(draft, rule, absent, excluded)?;
             Ok(())
         }
     }
@@ -388,28 +379,25 @@ fn add_constraint<N: Copy + Eq + Hash + Drop, S: Copy + Eq + Hash + Drop>(
 
 /// Appends the clause of an exclusion: the solvable is not in the set.
 fn add_exclusion<N: Copy + Eq + Hash + Drop, S: Copy + Eq + Hash + Drop>(
-    propositions: &mut IndexSet<Proposition<N, S>>,
-    clauses: &mut Vec<RuleClause>,
+    draft: &mut RuleDraft<N, S>,
     rule: usize,
     solvable: S,
 ) -> Result<(), Exhausted>
     requires names { IsIdentity N.eq }
     requires solvables { IsIdentity S.eq }
-    ensures { OnOk result (Adds propositions.old.keys propositions.new.keys clauses.old.items clauses.new.items
-        (plain rule (atom (Member solvable) false ∷ []) ∷ [])) }
+    ensures { OnOk result (AddsLines draft.old draft.new (plain rule (atom (Member solvable) false ∷ []) ∷ [])) }
 {
     let absent = Atom {
         proposition: Proposition::Member(solvable),
         positive: false,
     };
-    add_single(propositions, clauses, rule, absent)?;
+    add_single(draft, rule, absent)?;
     Ok(())
 }
 
 /// Appends the clauses of a rule.
 fn add_rule<N: Copy + Eq + Hash + Drop, S: Copy + Eq + Hash + Drop>(
-    propositions: &mut IndexSet<Proposition<N, S>>,
-    clauses: &mut Vec<RuleClause>,
+    draft: &mut RuleDraft<N, S>,
     width: u32,
     place: usize,
     code: usize,
@@ -418,7 +406,7 @@ fn add_rule<N: Copy + Eq + Hash + Drop, S: Copy + Eq + Hash + Drop>(
     requires names { IsIdentity N.eq }
     requires solvables { IsIdentity S.eq }
     requires width { width ≤ 64 }
-    ensures { OnOk result (Adds propositions.old.keys propositions.new.keys clauses.old.items clauses.new.items (lines_of width place code rule.now)) }
+    ensures { OnOk result (AddsLines draft.old draft.new (lines_of width place code rule.now)) }
 {
     match rule {
         Rule::Requires {
@@ -426,32 +414,19 @@ fn add_rule<N: Copy + Eq + Hash + Drop, S: Copy + Eq + Hash + Drop>(
             candidates,
             when,
             ..
-        } => add_requirement(propositions, clauses, place, *by, candidates, when),
-        Rule::Constrains { by, candidate, .. } => add_constraint(
-            propositions,
-            clauses,
-            place,
-            *by,
-            *candidate,
-        ),
-        Rule::Lock { forbidden, .. } => add_exclusion(propositions, clauses, place, *forbidden),
-        Rule::Excluded { solvable, .. } => add_exclusion(propositions, clauses, place, *solvable),
+        } => add_requirement(draft, place, *by, candidates, when),
+        Rule::Constrains { by, candidate, .. } => add_constraint(draft, place, *by, *candidate),
+        Rule::Lock { forbidden, .. } => add_exclusion(draft, place, *forbidden),
+        Rule::Excluded { solvable, .. } => add_exclusion(draft, place, *solvable),
         Rule::OnePerPackage { name, instance } => add_bits(
-            propositions,
-            clauses,
-            place,
-            *name,
-            *instance,
-            code,
-            width,
+            draft, place, *name, *instance, code, width,
         ),
     }
 }
 
 /// Appends the clauses of the rules.
 fn add_rules<N: Copy + Eq + Hash + Drop, S: Copy + Eq + Hash + Drop>(
-    propositions: &mut IndexSet<Proposition<N, S>>,
-    clauses: &mut Vec<RuleClause>,
+    draft: &mut RuleDraft<N, S>,
     width: u32,
     codes: &[usize],
     rules: &[Rule<N, S>],
@@ -460,35 +435,29 @@ fn add_rules<N: Copy + Eq + Hash + Drop, S: Copy + Eq + Hash + Drop>(
     requires solvables { IsIdentity S.eq }
     requires width { width ≤ 64 }
     requires size { length rules.now ≡ length codes.now }
-    ensures { OnOk result (Adds propositions.old.keys propositions.new.keys clauses.old.items clauses.new.items (all_lines width 0 rules.now codes.now)) }
+    ensures { OnOk result (AddsLines draft.old draft.new (all_lines width 0 rules.now codes.now)) }
 {
     for place in 0..rules.len() {
-        add_rule(
-            propositions,
-            clauses,
-            width,
-            place,
-            codes[place],
-            &rules[place],
-        )?;
+        add_rule(draft, width, place, codes[place], &rules[place])?;
     }
     Ok(())
 }
 
-/// Returns the clauses of the rules, over these propositions and new ones.
+/// Returns the clauses of the rules, over the propositions of a draft without clauses.
 fn clauses_over<N: Copy + Eq + Hash + Drop, S: Copy + Eq + Hash + Drop>(
     alloc: Global,
-    propositions: &mut IndexSet<Proposition<N, S>>,
+    draft: &mut RuleDraft<N, S>,
     rules: &[Rule<N, S>],
 ) -> Result<RuleClauses, Exhausted>
     requires names { IsIdentity N.eq }
     requires solvables { IsIdentity S.eq }
+    requires blank { draft.old.clauses.items ≡ [] }
     ensures { IfOk result (λ made. DecideRules rules.now made.variables made.clauses.items) }
 {
     let codes = codes_of(alloc, rules)?;
-    let mut clauses = Vec::new(alloc);
-    add_rules(propositions, &mut clauses, codes.width, &codes.codes, rules)?;
-    let variables = variable_count(propositions);
+    add_rules(draft, codes.width, &codes.codes, rules)?;
+    let variables = variable_count(&draft.propositions);
+    let clauses = replace(&mut draft.clauses, Vec::new(alloc));
     clauses_decide_rules::<N, S>();
     Ok(RuleClauses { variables, clauses })
 }
@@ -504,8 +473,11 @@ pub fn clauses_of<N: Copy + Eq + Hash + Drop, S: Copy + Eq + Hash + Drop>(
     requires solvables { IsIdentity S.eq }
     ensures { IfOk result (λ made. DecideRules rules.now made.variables made.clauses.items) }
 {
-    let mut propositions = IndexSet::new(alloc);
-    let made = clauses_over(alloc, &mut propositions, rules)?;
-    drop(propositions);
+    let mut draft = RuleDraft {
+        propositions: IndexSet::new(alloc),
+        clauses: Vec::new(alloc),
+    };
+    let made = clauses_over(alloc, &mut draft, rules)?;
+    drop(draft);
     Ok(made)
 }

@@ -1,19 +1,20 @@
 //! Attaching clauses to their watches, and clauses that become pending again.
 
-ghost use Rattle.std.specs.Prelude.{◌≡◌, ◌≢◌, ◌⊎◌, ℕ, ◌+◌, ◌*◌, ◌<◌, ◌≤◌, ◌++◌, ◌∷◌, [], All, IfNone, IfOk, IfSome, List, MatchBool, MatchOption};
-ghost use Rattle.std.specs.Prelude.{None, OnOk, Some, Vec, length, true};
+ghost use Rattle.std.specs.Prelude.{◌≡◌, ◌≢◌, ◌⊎◌, ℕ, ◌+◌, ◌*◌, ◌<◌, ◌≤◌, [], All, IfNone, IfOk, IfSome, List, MatchBool, MatchOption};
+ghost use Rattle.std.specs.Prelude.{None, OnOk, Some, Vec, false, length, true};
 ghost use Rattle.std.specs.declared.alloc.Global.{Global};
-ghost use Rattle.resolver_clause_store.specs.Formula.{AreBelow, IsBelow, clause_at};
+ghost use Rattle.resolver_clause_store.specs.Formula.{AreBelow, IsBelow};
 ghost use Rattle.resolver_clause_store.specs.Outcomes.{IsSatisfied};
 ghost use Rattle.resolver_clause_store.specs.TrailView.{IsCut, IsGrown, length_of, variable_count};
-ghost use Rattle.resolver_clause_store.specs.declared.Literal.{Literal};
+ghost use Rattle.resolver_clause_store.specs.Literals.{Literal};
 ghost use Rattle.resolver_clause_store.specs.declared.Trail.{Trail};
-ghost use Rattle.resolvo.specs.Attaching.{AreAlike, AreApart, EndsWith, Forces, IsAlike, IsHigh, IsHighPair, IsLower, IsNotBefore, IsOther, Recalls};
+ghost use Rattle.resolvo.specs.Attaching.{AreAlike, EndsWith, Forces, IsAlike, IsHigh, IsHighPair, IsLower, IsNotBefore, IsOther, IsPairOf, Recalls, AreApart, Attaches, Pops, PopsOne};
 ghost use Rattle.resolvo.specs.Propagation.{IsConflict, IsJustified};
 ghost use Rattle.resolver_clause_store.specs.Settled.{IsOpen};
-ghost use Rattle.resolvo.specs.Propagators.{IsConstant, IsPropagator, attached_of, late_of, pending_of};
+ghost use Rattle.resolvo.specs.Propagators.{IsPropagator, attached_of, late_of, pending_of, Follows, IsConstant};
+ghost use Rattle.resolvo.specs.Returning.{FollowsCut};
 ghost use Rattle.resolvo.specs.WatchedClauses.{OwnsPair};
-ghost use Rattle.resolver_clause_store.specs.Watches.{IsWatching, pair_at};
+ghost use Rattle.resolver_clause_store.specs.Watches.{HasLiteral, IsWatching, pair_at};
 ghost use Rattle.resolver_clause_store.specs.WatchesView.{lists_of, pairs_of};
 
 use super::pending::PendingClauses;
@@ -46,8 +47,7 @@ impl Propagator {
     pub fn grow(&mut self, variables: usize) -> Result<(), AllocError>
         requires { length (lists_of self.old.watches) ≤ 2 * variables }
         ensures propagator { OnOk result
-            ((table : List (List Literal)) (old new : Trail) → IsGrown old new variables → IsPropagator table old self.old →
-            IsPropagator table new self.new) }
+            ((table : List (List Literal)) (old new : Trail) → IsGrown old new variables → Follows table old new self.old self.new) }
         ensures pairs { pairs_of self.new.watches ≡ pairs_of self.old.watches }
     {
         self.watches.grow(variables)?;
@@ -74,8 +74,7 @@ impl Propagator {
     /// Follows a trail from which whole levels were removed.
     pub fn cut(&mut self, trail: &Trail) -> Result<(), AllocError>
         ensures propagator { OnOk result
-            ((table : List (List Literal)) (before : Trail) → IsLower before trail.now → IsPropagator table before self.old →
-            IsPropagator table trail.now self.new) }
+            ((table : List (List Literal)) (old : Trail) → IsLower old trail.now → Follows table old trail.now self.old self.new) }
         ensures watches { self.new.watches ≡ self.old.watches }
     {
         self.recall(trail.len())?;
@@ -85,9 +84,7 @@ impl Propagator {
 
     /// Follows a trail that was cut to its first entries. All of these are to be propagated again.
     pub fn forget(&mut self, trail: &Trail) -> Result<(), AllocError>
-        ensures propagator { OnOk result
-            ((table : List (List Literal)) (before : Trail) (count : ℕ) → count ≤ length_of before → IsCut before trail.now count →
-            IsPropagator table before self.old → IsPropagator table trail.now self.new) }
+        ensures propagator { OnOk result (FollowsCut false trail.now self.old self.new) }
         ensures watches { self.new.watches ≡ self.old.watches }
     {
         self.recall(trail.len())?;
@@ -103,15 +100,13 @@ impl Propagator {
         requires last { EndsWith (pending_of self.old) number }
         requires inside { number < attached_of self.old }
         requires below { (literal : Literal) → IsWatching (pairs_of self.old.watches) number literal → literal.variable < variable_count trail.now }
-        ensures propagator { OnOk result
-            ((table : List (List Literal)) → IsSatisfied trail.now (clause_at table number) → IsPropagator table trail.now self.old →
-            IsPropagator table trail.now self.new) }
+        ensures propagator { OnOk result (Pops IsSatisfied trail.now number self.old self.new) }
         ensures watches { self.new.watches ≡ self.old.watches }
-        ensures fewer { OnOk result (length (pending_of self.new) + 1 ≡ length (pending_of self.old)) }
+        ensures fewer { OnOk result (PopsOne self.old self.new) }
     {
         let pair = self.watches.pair(number);
         self.pending.pop();
-        if are_high(trail, pair.first, pair.second) {
+        if are_high(trail, &pair) {
             return Ok(());
         }
         let number = narrow(number)?;
@@ -126,13 +121,15 @@ impl Propagator {
         requires last { EndsWith (pending_of self.old) number }
         requires inside { number < attached_of self.old }
         requires below { (literal : Literal) → IsWatching (pairs_of self.old.watches) number literal → literal.variable < variable_count trail.now }
-        ensures propagator { (table : List (List Literal)) → IsOpen trail.now (clause_at table number) → IsPropagator table trail.now self.old →
-            IsPropagator table trail.now self.new }
+        ensures propagator { Pops IsOpen trail.now number self.old self.new }
         ensures watches { self.new.watches ≡ self.old.watches }
-        ensures fewer { length (pending_of self.new) + 1 ≡ length (pending_of self.old) }
+        ensures fewer { PopsOne self.old self.new }
     {
         let pair = self.watches.pair(number);
         self.pending.pop();
+        if pair.first == pair.second {
+            return;
+        }
         let first = false_place(trail, pair.first);
         let second = false_place(trail, pair.second);
         self.head = self.head.min(first).min(second);
@@ -142,9 +139,7 @@ impl Propagator {
     pub fn attach(&mut self, trail: &Trail, literals: &[Literal]) -> Result<(), AllocError>
         requires below { IsBelow (variable_count trail.now) literals.now }
         requires lists { length (lists_of self.old.watches) ≡ 2 * variable_count trail.now }
-        ensures propagator { OnOk result
-            ((table : List (List Literal)) → IsPropagator table trail.now self.old →
-            IsPropagator (table ++ literals.now ∷ []) trail.now self.new) }
+        ensures propagator { OnOk result (Attaches trail.now literals.now self.old self.new) }
         ensures kept { (number : ℕ) → number < attached_of self.old → pair_at (pairs_of self.new.watches) number ≡ pair_at (pairs_of self.old.watches) number }
         ensures own { OnOk result (OwnsPair literals.now (pair_at (pairs_of self.new.watches) (attached_of self.old))) }
     {
@@ -161,38 +156,32 @@ fn is_high(trail: &Trail, literal: Literal) -> bool
     requires { literal.variable < variable_count trail.now }
     ensures { result ≡ true → IsHigh trail.now literal }
 {
-    match trail.slot(literal.variable) {
-        Some(slot) => slot.value == literal.positive || slot.level as usize >= trail.level(),
+    match trail.slot(literal.variable()) {
+        Some(slot) => slot.value == literal.is_positive() || slot.level as usize >= trail.level(),
         None => true,
     }
 }
 
-/// Returns whether the clause watches two literals, each not false or false only at the highest level.
-fn are_high(trail: &Trail, first: Option<Literal>, second: Option<Literal>) -> bool
-    requires { (literal : Literal) → (first ≡ Some literal) ⊎ (second ≡ Some literal) → literal.variable < variable_count trail.now }
-    ensures { result ≡ true → IsHighPair trail.now (record { first = first; second = second }) }
+/// Returns whether the pair has two literals, each not false or false only at the highest level.
+fn are_high(trail: &Trail, pair: &WatchedPair) -> bool
+    requires { (literal : Literal) → HasLiteral pair.now literal → literal.variable < variable_count trail.now }
+    ensures { result ≡ true → IsHighPair trail.now pair.now }
 {
-    let Some(one) = first else {
+    if pair.first == pair.second {
         return false;
-    };
-    let Some(other) = second else {
-        return false;
-    };
-    is_high(trail, one) && is_high(trail, other)
+    }
+    is_high(trail, pair.first) && is_high(trail, pair.second)
 }
 
 /// Returns the place at which a literal became false, or the end of the trail if it is not false.
-fn false_place(trail: &Trail, watched: Option<Literal>) -> usize
-    requires { (literal : Literal) → watched ≡ Some literal → literal.variable < variable_count trail.now }
-    ensures { (literal : Literal) → watched ≡ Some literal → IsNotBefore trail.now result literal }
+fn false_place(trail: &Trail, literal: Literal) -> usize
+    requires { literal.variable < variable_count trail.now }
+    ensures { IsNotBefore trail.now result literal }
 {
-    let Some(literal) = watched else {
+    let Some(slot) = trail.slot(literal.variable()) else {
         return trail.len();
     };
-    let Some(slot) = trail.slot(literal.variable) else {
-        return trail.len();
-    };
-    if slot.value == literal.positive {
+    if slot.value == literal.is_positive() {
         return trail.len();
     }
     slot.place as usize
@@ -232,9 +221,7 @@ fn better(
     match found {
         None => Some(place),
         Some(best) => {
-            if false_place(trail, Some(literals[best]))
-                < false_place(trail, Some(literals[place]))
-            {
+            if false_place(trail, literals[best]) < false_place(trail, literals[place]) {
                 return Some(place);
             }
             Some(best)
@@ -284,20 +271,23 @@ fn best(trail: &Trail, literals: &[Literal], other: Option<usize>) -> Option<usi
     }
 }
 
-/// Returns two different literals of a clause to watch, if it has two.
+/// Returns two different literals of a clause to watch, or nothing if it does not have two.
 ///
 /// Literals that are not false are preferred, then those that became false last.
-fn pair_of(trail: &Trail, literals: &[Literal]) -> Option<(Literal, Literal)>
+fn pair_of(trail: &Trail, literals: &[Literal]) -> WatchedPair
     requires { IsBelow (variable_count trail.now) literals.now }
-    ensures { MatchOption result (IsConstant literals.now) (λ pair. AreApart literals.now pair.0 pair.1) }
+    ensures { IsPairOf literals.now result }
 {
     let Some(first) = best(trail, literals, None) else {
-        return None;
+        return WatchedPair::none();
     };
     let Some(second) = best(trail, literals, Some(first)) else {
-        return None;
+        return WatchedPair::none();
     };
-    Some((literals[first], literals[second]))
+    WatchedPair {
+        first: literals[first],
+        second: literals[second],
+    }
 }
 
 /// Examines the last pending clause, and pops it unless it is false. A unit clause forces its literal. Returns whether
@@ -312,8 +302,7 @@ fn apply_pending(
     requires justified { IsJustified table.now trail.old }
     requires propagator { IsPropagator table.now trail.old propagator.old }
     requires last { EndsWith (pending_of propagator.old) number }
-    ensures answer { IfOk result (λ holds.
-        MatchBool holds (length (pending_of propagator.new) + 1 ≡ length (pending_of propagator.old)) (IsConflict trail.new table.now number)) }
+    ensures answer { IfOk result (λ holds. MatchBool holds (PopsOne propagator.old propagator.new) (IsConflict trail.new table.now number)) }
     ensures propagator { OnOk result (IsPropagator table.now trail.new propagator.new) }
     ensures watches { propagator.new.watches ≡ propagator.old.watches }
     ensures step { OnOk result (Forces table.now trail.old trail.new) }

@@ -2,9 +2,9 @@
 
 ghost use Rattle.std.specs.Prelude.{◌≡◌, ◌<◌, ◌≤◌, ℕ, List, OnOk, true};
 ghost use Rattle.resolver_clause_store.specs.TrailView.{IsCut, length_of};
-ghost use Rattle.resolver_clause_store.specs.declared.Literal.{Literal};
+ghost use Rattle.resolver_clause_store.specs.Literals.{Literal};
 ghost use Rattle.resolver_clause_store.specs.declared.Trail.{Trail};
-ghost use Rattle.resolvo.specs.Returning.{BeginsLevel};
+ghost use Rattle.resolvo.specs.Returning.{BeginsLevel, FollowsCut};
 ghost use Rattle.resolvo.specs.Propagators.{IsPropagator};
 
 use super::Propagator;
@@ -30,9 +30,7 @@ impl Propagator {
     /// Follows a trail that was cut to its first entries. If a level began right after them, what was propagated of
     /// them stays propagated.
     pub fn return_to(&mut self, trail: &Trail, began: bool) -> Result<(), AllocError>
-        ensures propagator { OnOk result
-            ((table : List (List Literal)) (before : Trail) (count : ℕ) → count ≤ length_of before → (began ≡ true → BeginsLevel before count) →
-            IsCut before trail.now count → IsPropagator table before self.old → IsPropagator table trail.now self.new) }
+        ensures propagator { OnOk result (FollowsCut began trail.now self.old self.new) }
         ensures watches { self.new.watches ≡ self.old.watches }
     {
         if began {

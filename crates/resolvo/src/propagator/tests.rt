@@ -4,7 +4,7 @@ ghost use Rattle.std.specs.Prelude.{◌≡◌, IfOk, IsTrue, List, OnOk, Vec};
 ghost use Rattle.std.specs.declared.alloc.Global.{Global};
 ghost use Rattle.resolver_clause_store.specs.Formula.{AreBelow, IsBelow};
 ghost use Rattle.resolver_clause_store.specs.TrailView.{variable_count};
-ghost use Rattle.resolver_clause_store.specs.declared.Literal.{Literal};
+ghost use Rattle.resolver_clause_store.specs.Literals.{Literal};
 ghost use Rattle.resolvo.specs.Propagation.{IsJustified};
 ghost use Rattle.resolvo.specs.Propagators.{IsPropagator};
 ghost use Rattle.resolvo.specs.declared.propagator.Propagator.{Propagator};
@@ -21,7 +21,7 @@ fn is_below(clause: &[Literal], variables: usize) -> bool
 {
     clause
         .iter()
-        .all(|literal| literal.variable.index() < variables)
+        .all(|literal| literal.variable().index() < variables)
 }
 
 /// Returns whether each variable of each clause is below `variables`.
@@ -44,10 +44,7 @@ fn next(seed: u64) -> u64 {
 
 /// Returns a literal of one of 10 variables.
 fn literal(number: u64, positive: bool) -> Literal {
-    Literal {
-        variable: Variable::new((number % 10) as u32),
-        positive,
-    }
+    Literal::new(Variable::new((number % 10) as u32), positive)
 }
 
 /// Returns a clause of two or three literals with different variables.
@@ -66,10 +63,10 @@ fn random_clause(alloc: Global, seed: u64) -> Result<Vec<Literal>, AllocError> {
 
 /// Returns the variable of a positive number, counted from 1, or the negation of that of a negative one.
 fn literal_of(number: i32) -> Literal {
-    Literal {
-        variable: Variable::new(number.unsigned_abs().saturating_sub(1)),
-        positive: number > 0,
-    }
+    Literal::new(
+        Variable::new(number.unsigned_abs().saturating_sub(1)),
+        number > 0,
+    )
 }
 
 /// Returns clauses, each given by its literals' numbers.
@@ -144,10 +141,10 @@ fn set(trail: &mut Trail, literal: Literal) -> Result<(), AllocError>
     ensures propagator { OnOk result
         ((table : List (List Literal)) (propagator : Propagator) → IsPropagator table trail.old propagator → IsPropagator table trail.new propagator) }
 {
-    if literal.variable.index() >= trail.variable_count() {
+    if literal.variable().index() >= trail.variable_count() {
         return Ok(());
     }
-    match trail.slot(literal.variable) {
+    match trail.slot(literal.variable()) {
         Some(_) => Ok(()),
         None => {
             trail.decide(literal, 0)?;
@@ -157,8 +154,8 @@ fn set(trail: &mut Trail, literal: Literal) -> Result<(), AllocError>
 }
 
 /// Returns the value of a variable, if it has one.
-fn value(trail: &Trail, number: u32) -> Option<bool> {
-    let variable = Variable::new(number);
+fn value(trail: &Trail, number: u16) -> Option<bool> {
+    let variable = Variable::new(u32::from(number));
     if variable.index() >= trail.variable_count() {
         return None;
     }
@@ -170,7 +167,7 @@ fn value(trail: &Trail, number: u32) -> Option<bool> {
 
 /// Returns whether the variables below 10 have the same values.
 fn are_same(one: &Trail, other: &Trail) -> bool {
-    for number in 0..10u32 {
+    for number in 0..10u16 {
         if value(one, number) != value(other, number) {
             return false;
         }

@@ -1,15 +1,15 @@
 //! Visits to the clauses that watch a literal which has become false.
 
-ghost use Rattle.std.specs.Prelude.{◌≡◌, ◌≢◌, ◌+◌, ◌<◌, ◌≤◌, ◌++◌, ◌∷◌, [], false, true, All, Contains, IfNone, IfOk, IfSome, List, MatchOption, None, OnErr, OnOk, Some, if◌then◌else◌, length};
+ghost use Rattle.std.specs.Prelude.{◌≡◌, ◌≢◌, ◌+◌, ◌<◌, ◌≤◌, false, true, All, Contains, IfNone, IfOk, IfSome, MatchOption, None, OnErr, OnOk, Some, length};
 ghost use Rattle.resolver_clause_store.specs.Formula.{AreBelow, IsBelow, clause_at};
 ghost use Rattle.resolver_clause_store.specs.Outcomes.{IsSatisfied};
 ghost use Rattle.resolver_clause_store.specs.TrailView.{length_of, literal_value, variable_count};
-ghost use Rattle.resolver_clause_store.specs.declared.Literal.{Literal};
+ghost use Rattle.resolver_clause_store.specs.Literals.{Literal};
 ghost use Rattle.resolver_clause_store.specs.declared.Watch.{Watch};
 ghost use Rattle.resolvo.specs.Propagation.{IsConflict, IsJustified, IsUnit, Propagates};
 ghost use Rattle.resolver_clause_store.specs.Settled.{AllSettled};
 ghost use Rattle.resolvo.specs.Propagators.{IsAttached, IsPropagator};
-ghost use Rattle.resolvo.specs.Visits.{FailsAt, IsPaired, IsPlaced, IsVisiting, WatchOutcomeIs, ReplacesAt, StandsAt};
+ghost use Rattle.resolvo.specs.Visits.{FailsAt, GoesOnAt, IsPaired, IsPlaced, IsVisiting, WatchOutcomeIs, ReplacesAt, StandsAt, late_with};
 ghost use Rattle.resolvo.specs.WatchedClauses.{AreOwned};
 ghost use Rattle.resolver_clause_store.specs.Watches.{IsWatching};
 ghost use Rattle.resolver_clause_store.specs.WatchesView.{HasList, pairs_of};
@@ -127,18 +127,12 @@ impl Propagator {
         let variable = trail.variable_at(self.head);
         match trail.slot(variable) {
             Some(slot) => FalseLiteral {
-                literal: Literal {
-                    variable,
-                    positive: !slot.value,
-                },
+                literal: Literal::new(variable, !slot.value),
                 level: slot.level as usize,
                 is_top: trail.level() <= slot.level as usize,
             },
             None => FalseLiteral {
-                literal: Literal {
-                    variable,
-                    positive: false,
-                },
+                literal: Literal::new(variable, false),
                 level: 0,
                 is_top: false,
             },
@@ -155,8 +149,7 @@ impl Propagator {
         ensures watches { self.new.watches ≡ self.old.watches }
         ensures pending { self.new.pending ≡ self.old.pending }
         ensures head { self.new.head ≡ self.old.head }
-        ensures late { OnOk result (late_of self.new ≡
-            (if falsified.now.is_top then late_of self.old else late_of self.old ++ record { number = number; length = length_of trail.now } ∷ [])) }
+        ensures late { OnOk result (late_of self.new ≡ late_with (late_of self.old) falsified.now number (length_of trail.now)) }
     {
         if falsified.is_top {
             return Ok(());
@@ -358,9 +351,7 @@ impl Propagator {
         ensures placed { IfSome result (λ placed. IsPlaced (watchers_of self.now falsified.now.literal) placed) }
         ensures watching { IfSome result (λ placed. IsWatching (pairs_of self.now.watches) placed.watch.number falsified.now.literal) }
         ensures above { IfSome result (λ placed. from ≤ placed.place) }
-        ensures visiting { (table : List (List Literal)) → IsVisiting table trail.now self.now falsified.now from →
-            MatchOption result (IsVisiting table trail.now self.now falsified.now (length (watchers_of self.now falsified.now.literal)))
-            (λ placed. IsVisiting table trail.now self.now falsified.now placed.place) }
+        ensures visiting { GoesOnAt trail.now self.now falsified.now from result }
     {
         if falsified.is_top {
             return self

@@ -42,13 +42,10 @@ fn the_root_comes_before_higher_scores(rt: HostRuntime) -> Result<(), Fail> {
 }
 
 /// Returns the positive literal of a variable.
-fn positive(number: u32) -> Literal
+fn positive(number: u16) -> Literal
     ensures { result.variable ≡ number }
 {
-    Literal {
-        variable: Variable::new(number),
-        positive: true,
-    }
+    Literal::new(Variable::new(u32::from(number)), true)
 }
 
 /// Decides the first of two candidates of different packages, and returns the level that is kept where the other comes next. The
@@ -57,7 +54,7 @@ fn kept_after_one(
     table: &mut Clauses,
     queue: &mut DecideQueue,
     trail: &mut Trail,
-    scored: u32,
+    scored: u16,
 ) -> Result<usize, Fail>
     requires table { table.old ≡ [] }
     requires trail { variable_count trail.old ≡ 0 }
@@ -75,7 +72,7 @@ fn kept_after_one(
     Ok(kept_level(trail, table, &[], queue, 0, next))
 }
 
-fn kept_with_score(alloc: Global, scored: u32) -> Result<usize, Fail> {
+fn kept_with_score(alloc: Global, scored: u16) -> Result<usize, Fail> {
     let mut table = Clauses::new(alloc);
     let mut queue = DecideQueue::new(alloc, Activity::standard());
     let mut trail = Trail::empty(alloc);

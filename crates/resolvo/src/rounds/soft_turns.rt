@@ -1,15 +1,12 @@
 //! The turns of soft requirements, after there is an answer without them.
 
 ghost use Rattle.std.specs.Iterator.{Drains, IsFinite};
-ghost use Rattle.std.specs.Prelude.{◌≡◌, ◌++◌, ◌∷◌, [], All, Contains, IfErr, IfOk, IfSome, List, MatchBool, OnOk, map};
+ghost use Rattle.std.specs.Prelude.{◌++◌, ◌∷◌, [], All, Contains, IfErr, IfOk, IfSome, MatchBool, OnOk, map};
 ghost use Rattle.resolver_clause_store.specs.Caches.{IsTrueCache};
 ghost use Rattle.resolver_clause_store.specs.Laws.{IsIdentity};
-ghost use Rattle.resolver_clause_store.specs.Lists.{IsWithin, Meets};
-ghost use Rattle.resolver_clause_store.specs.Universe.{Demands};
-ghost use Rattle.resolver_clause_store.specs.declared.SoftRequirement.{SoftRequirement as SoftRequirementOf};
-ghost use Rattle.resolver_clause_store.specs.declared.SoftRequirement.TheVariants.{Matching, Solvable as SoftSolvable};
+ghost use Rattle.resolver_clause_store.specs.Lists.{Meets};
+ghost use Rattle.resolver_clause_store.specs.declared.SoftRequirement.TheVariants.{Matching, Solvable};
 ghost use Rattle.resolver_encoding.specs.Refusals.{IsStop};
-ghost use Rattle.resolver_encoding.specs.Turns.{AsksOnly};
 ghost use Rattle.resolvo.specs.Problems.{AreItems};
 
 use super::Rounds;
@@ -34,8 +31,8 @@ fn has_any<T: Eq + Hash>(set: &IndexSet<T>, list: &[T]) -> bool
 }
 
 impl<N: Copy + Eq + Hash + Drop, S: Copy + Eq + Hash + Drop> Rounds<N, S> {
-    ghost use Rattle.resolvo.specs.RoundStates.{AreRounds, HaveTurned, IsBetween, IsStanding, IsStill, IsStuck};
-    ghost use Rattle.resolvo.specs.RoundStates.{KeepsRoom, chosen_of, notes_of};
+    ghost use Rattle.resolvo.specs.RoundStates.{AreAtRest, AreRounds, HasAsked, IsStuck, KeepsRoom, TakesAll, TakesFirst, TakesTurns};
+    ghost use Rattle.resolvo.specs.RoundStates.{chosen_of, notes_of};
 
     /// Gives candidates of asked packages their turns until one is accepted. Returns whether one is.
     fn take_first<D: DependencyProvider<NameId = N, SolvableId = S>>(
@@ -44,18 +41,13 @@ impl<N: Copy + Eq + Hash + Drop, S: Copy + Eq + Hash + Drop> Rounds<N, S> {
         cache: &mut Cache<N, S>,
         candidates: &[S],
     ) -> Result<bool, Interrupted<D::Cancel>>
-        requires rounds { AreRounds (D.universe provider.now) self.old }
-        requires still { IsStill self.old }
+        requires rest { AreAtRest (D.universe provider.now) self.old }
         requires is_true { IsTrueCache (D.universe provider.now) cache.old }
         requires asked { All (λ s. Contains (notes_of self.old).asked ((D.universe provider.now).name s)) candidates.now }
         requires none { Meets candidates.now (chosen_of self.old) → ⊥ }
         ensures is_true { IsTrueCache (D.universe provider.now) cache.new }
-        ensures rounds { OnOk result (AreRounds (D.universe provider.now) self.new) }
-        ensures still { OnOk result (IsStill self.new) }
-        ensures turned { IfOk result (λ is_chosen.
-            (root : Demands) (taken refused seeds : List S) (packages : List N) → IsWithin candidates.now seeds →
-            IsStanding (D.universe provider.now) root taken refused seeds packages self.old →
-            HaveTurned (D.universe provider.now) root taken seeds packages candidates.now self.old self.new is_chosen) }
+        ensures rest { OnOk result (AreAtRest (D.universe provider.now) self.new) }
+        ensures turned { IfOk result (TakesFirst (D.universe provider.now) candidates.now self.old self.new) }
         ensures limits { KeepsRoom self.old self.new }
         ensures refusal { IfErr result (IsStop (D.may_cancel provider.now) (IsStuck self.new)) }
     {
@@ -74,19 +66,11 @@ impl<N: Copy + Eq + Hash + Drop, S: Copy + Eq + Hash + Drop> Rounds<N, S> {
         cache: &mut Cache<N, S>,
         version_set: VersionSetId,
     ) -> Result<(), Interrupted<D::Cancel>>
-        requires rounds { AreRounds (D.universe provider.now) self.old }
-        requires still { IsStill self.old }
+        requires rest { AreAtRest (D.universe provider.now) self.old }
         requires is_true { IsTrueCache (D.universe provider.now) cache.old }
         ensures is_true { IsTrueCache (D.universe provider.now) cache.new }
-        ensures rounds { OnOk result (AreRounds (D.universe provider.now) self.new) }
-        ensures still { OnOk result (IsStill self.new) }
-        ensures chosen { OnOk result (chosen_of self.new ≡ chosen_of self.old) }
-        ensures alone { OnOk result (AsksOnly (D.universe provider.now) ((D.universe provider.now).version_set_name version_set) (notes_of self.old)
-            (notes_of self.new)) }
-        ensures standing { OnOk result
-            ((root : Demands) (taken refused seeds : List S) (packages : List N) → Contains packages ((D.universe provider.now).version_set_name version_set) →
-            IsStanding (D.universe provider.now) root taken refused seeds packages self.old →
-            IsStanding (D.universe provider.now) root taken refused seeds packages self.new) }
+        ensures rest { OnOk result (AreAtRest (D.universe provider.now) self.new) }
+        ensures asked { OnOk result (HasAsked (D.universe provider.now) version_set self.old self.new) }
         ensures limits { KeepsRoom self.old self.new }
         ensures refusal { IfErr result (IsStop (D.may_cancel provider.now) (IsStuck self.new)) }
     {
@@ -104,14 +88,11 @@ impl<N: Copy + Eq + Hash + Drop, S: Copy + Eq + Hash + Drop> Rounds<N, S> {
         cache: &mut Cache<N, S>,
         version_set: VersionSetId,
     ) -> Result<(), Interrupted<D::Cancel>>
-        requires rounds { AreRounds (D.universe provider.now) self.old }
-        requires still { IsStill self.old }
+        requires rest { AreAtRest (D.universe provider.now) self.old }
         requires is_true { IsTrueCache (D.universe provider.now) cache.old }
         ensures is_true { IsTrueCache (D.universe provider.now) cache.new }
-        ensures rounds { OnOk result (AreRounds (D.universe provider.now) self.new) }
-        ensures still { OnOk result (IsStill self.new) }
-        ensures between { OnOk result ((root : Demands) (done : List (SoftRequirementOf S)) → IsBetween (D.universe provider.now) root done self.old →
-            IsBetween (D.universe provider.now) root (done ++ Matching version_set ∷ []) self.new) }
+        ensures rest { OnOk result (AreAtRest (D.universe provider.now) self.new) }
+        ensures between { OnOk result (TakesTurns (D.universe provider.now) (Matching version_set ∷ []) self.old self.new) }
         ensures limits { KeepsRoom self.old self.new }
         ensures refusal { IfErr result (IsStop (D.may_cancel provider.now) (IsStuck self.new)) }
     {
@@ -131,14 +112,11 @@ impl<N: Copy + Eq + Hash + Drop, S: Copy + Eq + Hash + Drop> Rounds<N, S> {
         cache: &mut Cache<N, S>,
         requirement: SoftRequirement<S>,
     ) -> Result<(), Interrupted<D::Cancel>>
-        requires rounds { AreRounds (D.universe provider.now) self.old }
-        requires still { IsStill self.old }
+        requires rest { AreAtRest (D.universe provider.now) self.old }
         requires is_true { IsTrueCache (D.universe provider.now) cache.old }
         ensures is_true { IsTrueCache (D.universe provider.now) cache.new }
-        ensures rounds { OnOk result (AreRounds (D.universe provider.now) self.new) }
-        ensures still { OnOk result (IsStill self.new) }
-        ensures between { OnOk result ((root : Demands) (done : List (SoftRequirementOf S)) → IsBetween (D.universe provider.now) root done self.old →
-            IsBetween (D.universe provider.now) root (done ++ requirement ∷ []) self.new) }
+        ensures rest { OnOk result (AreAtRest (D.universe provider.now) self.new) }
+        ensures between { OnOk result (TakesTurns (D.universe provider.now) (requirement ∷ []) self.old self.new) }
         ensures limits { KeepsRoom self.old self.new }
         ensures refusal { IfErr result (IsStop (D.may_cancel provider.now) (IsStuck self.new)) }
     {
@@ -166,14 +144,11 @@ impl<N: Copy + Eq + Hash + Drop, S: Copy + Eq + Hash + Drop> Rounds<N, S> {
     ) -> Result<(), Interrupted<D::Cancel>>
         requires can_next { I.can_next soft }
         requires ends { IsFinite (I.remaining soft) }
-        requires rounds { AreRounds (D.universe provider.now) self.old }
-        requires still { IsStill self.old }
+        requires rest { AreAtRest (D.universe provider.now) self.old }
         requires is_true { IsTrueCache (D.universe provider.now) cache.old }
         ensures is_true { IsTrueCache (D.universe provider.now) cache.new }
-        ensures rounds { OnOk result (AreRounds (D.universe provider.now) self.new) }
-        ensures still { OnOk result (IsStill self.new) }
-        ensures between { OnOk result ((root : Demands) → IsBetween (D.universe provider.now) root [] self.old → (items : List S) ×
-            Drains I.next_gives soft items × IsBetween (D.universe provider.now) root (map SoftSolvable items) self.new) }
+        ensures rest { OnOk result (AreAtRest (D.universe provider.now) self.new) }
+        ensures between { OnOk result (TakesAll (D.universe provider.now) (Drains I.next_gives soft) (map Solvable) self.old self.new) }
         ensures limits { KeepsRoom self.old self.new }
         ensures refusal { IfErr result (IsStop (D.may_cancel provider.now) (IsStuck self.new)) }
     {
@@ -190,13 +165,11 @@ impl<N: Copy + Eq + Hash + Drop, S: Copy + Eq + Hash + Drop> Rounds<N, S> {
         cache: &mut Cache<N, S>,
         list: &[SoftRequirement<S>],
     ) -> Result<(), Interrupted<D::Cancel>>
-        requires rounds { AreRounds (D.universe provider.now) self.old }
-        requires still { IsStill self.old }
+        requires rest { AreAtRest (D.universe provider.now) self.old }
         requires is_true { IsTrueCache (D.universe provider.now) cache.old }
         ensures is_true { IsTrueCache (D.universe provider.now) cache.new }
         ensures rounds { OnOk result (AreRounds (D.universe provider.now) self.new) }
-        ensures between { OnOk result ((root : Demands) (done : List (SoftRequirementOf S)) → IsBetween (D.universe provider.now) root done self.old →
-            IsBetween (D.universe provider.now) root (done ++ list.now) self.new) }
+        ensures between { OnOk result (TakesTurns (D.universe provider.now) list.now self.old self.new) }
         ensures limits { KeepsRoom self.old self.new }
         ensures refusal { IfErr result (IsStop (D.may_cancel provider.now) (IsStuck self.new)) }
     {
@@ -215,14 +188,11 @@ impl<N: Copy + Eq + Hash + Drop, S: Copy + Eq + Hash + Drop> Rounds<N, S> {
     ) -> Result<(), Interrupted<D::Cancel>>
         requires can_next { IfSome soft (λ it. I.can_next it) }
         requires ends { IfSome soft (λ it. IsFinite (I.remaining it)) }
-        requires rounds { AreRounds (D.universe provider.now) self.old }
-        requires still { IsStill self.old }
+        requires rest { AreAtRest (D.universe provider.now) self.old }
         requires is_true { IsTrueCache (D.universe provider.now) cache.old }
         ensures is_true { IsTrueCache (D.universe provider.now) cache.new }
-        ensures rounds { OnOk result (AreRounds (D.universe provider.now) self.new) }
-        ensures still { OnOk result (IsStill self.new) }
-        ensures between { OnOk result ((root : Demands) → IsBetween (D.universe provider.now) root [] self.old → (items : List S) ×
-            AreItems I.next_gives soft items × IsBetween (D.universe provider.now) root (map SoftSolvable items) self.new) }
+        ensures rest { OnOk result (AreAtRest (D.universe provider.now) self.new) }
+        ensures between { OnOk result (TakesAll (D.universe provider.now) (AreItems I.next_gives soft) (map Solvable) self.old self.new) }
         ensures limits { KeepsRoom self.old self.new }
         ensures refusal { IfErr result (IsStop (D.may_cancel provider.now) (IsStuck self.new)) }
     {
@@ -248,13 +218,12 @@ impl<N: Copy + Eq + Hash + Drop, S: Copy + Eq + Hash + Drop> Rounds<N, S> {
     ) -> Result<(), Interrupted<D::Cancel>>
         requires can_next { IfSome soft (λ it. I.can_next it) }
         requires ends { IfSome soft (λ it. IsFinite (I.remaining it)) }
-        requires rounds { AreRounds (D.universe provider.now) self.old }
-        requires still { IsStill self.old }
+        requires rest { AreAtRest (D.universe provider.now) self.old }
         requires is_true { IsTrueCache (D.universe provider.now) cache.old }
         ensures is_true { IsTrueCache (D.universe provider.now) cache.new }
         ensures rounds { OnOk result (AreRounds (D.universe provider.now) self.new) }
-        ensures between { OnOk result ((root : Demands) → IsBetween (D.universe provider.now) root [] self.old → (items : List S) ×
-            AreItems I.next_gives soft items × IsBetween (D.universe provider.now) root (map SoftSolvable items ++ list.now) self.new) }
+        ensures between { OnOk result
+            (TakesAll (D.universe provider.now) (AreItems I.next_gives soft) (λ items. map Solvable items ++ list.now) self.old self.new) }
         ensures limits { KeepsRoom self.old self.new }
         ensures refusal { IfErr result (IsStop (D.may_cancel provider.now) (IsStuck self.new)) }
     {

@@ -41,8 +41,6 @@ struct Stated<'x> {
     required: &'x [(u32, ConditionalRequirement)],
     /// The constraints of each solvable.
     constrained: &'x [(u32, VersionSetId)],
-    /// Whether there is a package for every id.
-    endless: bool,
 }
 
 /// The parts of a problem.
@@ -71,8 +69,6 @@ enum Wanted<'x> {
     Counted(&'x [u32], usize, usize),
     /// The same, and exactly these packages were asked for their candidates: the digits name them in order.
     Asking(&'x [u32], usize, usize, u32),
-    /// The provider stops the search.
-    Stopped,
     /// Ids run out.
     Ids,
     /// The same, with this many clauses.
@@ -84,12 +80,12 @@ enum Wanted<'x> {
 /// A step of a test with a solver.
 #[derive(Clone, Copy)]
 enum Step<'x> {
-    /// Its provider is told which of the next cancel checks stops the search.
-    StopAt(u32),
-    /// The limits of variables, clauses and learnt clauses are set.
+    /// The limits of variables, clauses and learnt clauses are lowered.
     Room(u16),
     RoomForClauses(u16),
     RoomForLearning(u16),
+    /// The limits are set back.
+    Unlimited,
     /// It solves a problem, with this result.
     Solve(Asked<'x>, Wanted<'x>),
     /// It solves a problem, and then another one, for which these solvables are chosen. After that, the graph of the
@@ -98,14 +94,13 @@ enum Step<'x> {
 }
 
 /// Returns a provider that states nothing yet.
-fn provider_of_nothing(alloc: Global, endless: bool) -> TestProvider {
+fn provider_of_nothing(alloc: Global) -> TestProvider {
     TestProvider {
         alloc,
         requirements: Vec::new(alloc),
         constraints: Vec::new(alloc),
         cancelling: Cell::new(0),
         log: Cell::new(0),
-        endless,
     }
 }
 
@@ -188,7 +183,6 @@ fn is_wanted(solver: &Solver<TestProvider>, outcome: &Outcome, wanted: &Wanted<'
                 & (solver.deferred_requirements_count() == *deferred)
                 & (solver.provider().log.get() == *asked)
         }
-        Wanted::Stopped => matches!(outcome, Err(UnsolvableOrCancelled::Cancelled(7))),
         Wanted::Ids => has_no_ids(outcome),
         Wanted::IdsBehind(clauses) => has_no_ids(outcome) & (solver.clause_count() == *clauses),
         Wanted::Refuted => is_explained(solver, outcome),
@@ -197,9 +191,9 @@ fn is_wanted(solver: &Solver<TestProvider>, outcome: &Outcome, wanted: &Wanted<'
 
 /// Returns whether a problem has this result.
 fn ends_with(solver: &mut Solver<TestProvider>, problem: TestProblem, wanted: &Wanted<'_>) -> bool
-    requires { IsSound (test_universe (provider_in solver.old).endless (provider_in solver.old).requirements.items
+    requires { IsSound (test_universe (provider_in solver.old).requirements.items
         (provider_in solver.old).constraints.items) solver.old }
-    ensures { IsSound (test_universe (provider_in solver.new).endless (provider_in solver.new).requirements.items
+    ensures { IsSound (test_universe (provider_in solver.new).requirements.items
         (provider_in solver.new).constraints.items) solver.new }
 {
     let outcome = solver.solve(problem);
@@ -208,9 +202,9 @@ fn ends_with(solver: &mut Solver<TestProvider>, problem: TestProblem, wanted: &W
 
 /// Returns whether the problem with these parts has this result.
 fn solves(solver: &mut Solver<TestProvider>, asked: &Asked<'_>, wanted: &Wanted<'_>) -> bool
-    requires { IsSound (test_universe (provider_in solver.old).endless (provider_in solver.old).requirements.items
+    requires { IsSound (test_universe (provider_in solver.old).requirements.items
         (provider_in solver.old).constraints.items) solver.old }
-    ensures { IsSound (test_universe (provider_in solver.new).endless (provider_in solver.new).requirements.items
+    ensures { IsSound (test_universe (provider_in solver.new).requirements.items
         (provider_in solver.new).constraints.items) solver.new }
 {
     match problem_of(solver.alloc, asked) {
@@ -221,9 +215,9 @@ fn solves(solver: &mut Solver<TestProvider>, asked: &Asked<'_>, wanted: &Wanted<
 
 /// Sets the limit of variables.
 fn limit_variables(solver: &mut Solver<TestProvider>, limit: u16)
-    requires { IsSound (test_universe (provider_in solver.old).endless (provider_in solver.old).requirements.items
+    requires { IsSound (test_universe (provider_in solver.old).requirements.items
         (provider_in solver.old).constraints.items) solver.old }
-    ensures { IsSound (test_universe (provider_in solver.new).endless (provider_in solver.new).requirements.items
+    ensures { IsSound (test_universe (provider_in solver.new).requirements.items
         (provider_in solver.new).constraints.items) solver.new }
 {
     solver.variable_limit = limit as usize;
@@ -231,9 +225,9 @@ fn limit_variables(solver: &mut Solver<TestProvider>, limit: u16)
 
 /// Sets the limit of clauses.
 fn limit_clauses(solver: &mut Solver<TestProvider>, limit: u16)
-    requires { IsSound (test_universe (provider_in solver.old).endless (provider_in solver.old).requirements.items
+    requires { IsSound (test_universe (provider_in solver.old).requirements.items
         (provider_in solver.old).constraints.items) solver.old }
-    ensures { IsSound (test_universe (provider_in solver.new).endless (provider_in solver.new).requirements.items
+    ensures { IsSound (test_universe (provider_in solver.new).requirements.items
         (provider_in solver.new).constraints.items) solver.new }
 {
     solver.clause_limit = limit as usize;
@@ -241,12 +235,24 @@ fn limit_clauses(solver: &mut Solver<TestProvider>, limit: u16)
 
 /// Sets the limit of learnt clauses.
 fn limit_learning(solver: &mut Solver<TestProvider>, limit: u16)
-    requires { IsSound (test_universe (provider_in solver.old).endless (provider_in solver.old).requirements.items
+    requires { IsSound (test_universe (provider_in solver.old).requirements.items
         (provider_in solver.old).constraints.items) solver.old }
-    ensures { IsSound (test_universe (provider_in solver.new).endless (provider_in solver.new).requirements.items
+    ensures { IsSound (test_universe (provider_in solver.new).requirements.items
         (provider_in solver.new).constraints.items) solver.new }
 {
     solver.learnt_limit = limit as usize;
+}
+
+/// Sets back the limits to those of a new solver.
+fn set_back_limits(solver: &mut Solver<TestProvider>)
+    requires { IsSound (test_universe (provider_in solver.old).requirements.items
+        (provider_in solver.old).constraints.items) solver.old }
+    ensures { IsSound (test_universe (provider_in solver.new).requirements.items
+        (provider_in solver.new).constraints.items) solver.new }
+{
+    solver.variable_limit = 1 << 31;
+    solver.clause_limit = 1 << 31;
+    solver.learnt_limit = 1 << 31;
 }
 
 /// Returns the conflict of a problem, if it has one.
@@ -254,9 +260,9 @@ fn conflict_in(
     solver: &mut Solver<TestProvider>,
     problem: TestProblem,
 ) -> Option<Conflict<u32, u32>>
-    requires { IsSound (test_universe (provider_in solver.old).endless (provider_in solver.old).requirements.items
+    requires { IsSound (test_universe (provider_in solver.old).requirements.items
         (provider_in solver.old).constraints.items) solver.old }
-    ensures { IsSound (test_universe (provider_in solver.new).endless (provider_in solver.new).requirements.items
+    ensures { IsSound (test_universe (provider_in solver.new).requirements.items
         (provider_in solver.new).constraints.items) solver.new }
 {
     match solver.solve(problem) {
@@ -267,9 +273,9 @@ fn conflict_in(
 
 /// Returns the conflict of the problem with these parts, if it has one.
 fn conflict_of(solver: &mut Solver<TestProvider>, asked: &Asked<'_>) -> Option<Conflict<u32, u32>>
-    requires { IsSound (test_universe (provider_in solver.old).endless (provider_in solver.old).requirements.items
+    requires { IsSound (test_universe (provider_in solver.old).requirements.items
         (provider_in solver.old).constraints.items) solver.old }
-    ensures { IsSound (test_universe (provider_in solver.new).endless (provider_in solver.new).requirements.items
+    ensures { IsSound (test_universe (provider_in solver.new).requirements.items
         (provider_in solver.new).constraints.items) solver.new }
 {
     match problem_of(solver.alloc, asked) {
@@ -286,9 +292,9 @@ fn has_graph_afterwards(
     second: &Asked<'_>,
     chosen: &[u32],
 ) -> bool
-    requires { IsSound (test_universe (provider_in solver.old).endless (provider_in solver.old).requirements.items
+    requires { IsSound (test_universe (provider_in solver.old).requirements.items
         (provider_in solver.old).constraints.items) solver.old }
-    ensures { IsSound (test_universe (provider_in solver.new).endless (provider_in solver.new).requirements.items
+    ensures { IsSound (test_universe (provider_in solver.new).requirements.items
         (provider_in solver.new).constraints.items) solver.new }
 {
     let conflict = conflict_of(solver, first);
@@ -297,16 +303,12 @@ fn has_graph_afterwards(
 
 /// Takes a step, and returns whether it has the expected result.
 fn goes(solver: &mut Solver<TestProvider>, step: &Step<'_>) -> bool
-    requires { IsSound (test_universe (provider_in solver.old).endless (provider_in solver.old).requirements.items
+    requires { IsSound (test_universe (provider_in solver.old).requirements.items
         (provider_in solver.old).constraints.items) solver.old }
-    ensures { IsSound (test_universe (provider_in solver.new).endless (provider_in solver.new).requirements.items
+    ensures { IsSound (test_universe (provider_in solver.new).requirements.items
         (provider_in solver.new).constraints.items) solver.new }
 {
     match step {
-        Step::StopAt(check) => {
-            solver.provider().cancelling.set(*check);
-            true
-        }
         Step::Room(variables) => {
             limit_variables(solver, *variables);
             true
@@ -319,6 +321,10 @@ fn goes(solver: &mut Solver<TestProvider>, step: &Step<'_>) -> bool
             limit_learning(solver, *learnt);
             true
         }
+        Step::Unlimited => {
+            set_back_limits(solver);
+            true
+        }
         Step::Solve(asked, wanted) => solves(solver, asked, wanted),
         Step::Graph(first, second, chosen) => has_graph_afterwards(solver, first, second, chosen),
     }
@@ -326,9 +332,9 @@ fn goes(solver: &mut Solver<TestProvider>, step: &Step<'_>) -> bool
 
 /// Takes one step after another, and returns whether each has the expected result.
 fn all_go(solver: &mut Solver<TestProvider>, steps: &[Step<'_>]) -> bool
-    requires { IsSound (test_universe (provider_in solver.old).endless (provider_in solver.old).requirements.items
+    requires { IsSound (test_universe (provider_in solver.old).requirements.items
         (provider_in solver.old).constraints.items) solver.old }
-    ensures { IsSound (test_universe (provider_in solver.new).endless (provider_in solver.new).requirements.items
+    ensures { IsSound (test_universe (provider_in solver.new).requirements.items
         (provider_in solver.new).constraints.items) solver.new }
 {
     for step in steps {
@@ -341,7 +347,7 @@ fn all_go(solver: &mut Solver<TestProvider>, steps: &[Step<'_>]) -> bool
 
 /// Returns whether a new solver has no clauses, all steps succeed, and its provider still makes the same statements.
 fn goes_through(solver: &mut Solver<TestProvider>, stated: &Stated<'_>, steps: &[Step<'_>]) -> bool
-    requires { IsSound (test_universe (provider_in solver.old).endless (provider_in solver.old).requirements.items
+    requires { IsSound (test_universe (provider_in solver.old).requirements.items
         (provider_in solver.old).constraints.items) solver.old }
 {
     let before = solver.clause_count();
@@ -354,7 +360,7 @@ fn goes_through(solver: &mut Solver<TestProvider>, stated: &Stated<'_>, steps: &
 ///
 /// Only this function owns a solver, because the prover takes long for each exit of a function that owns one.
 fn holds(alloc: Global, stated: &Stated<'_>, steps: &[Step<'_>]) -> bool {
-    let mut provider = provider_of_nothing(alloc, stated.endless);
+    let mut provider = provider_of_nothing(alloc);
     let has_room = state(&mut provider, stated).is_ok();
     let mut solver = Solver::new(alloc, provider);
     let held = has_room & goes_through(&mut solver, stated, steps);
@@ -372,7 +378,6 @@ fn goes_over<'x>(
     let stated = Stated {
         required,
         constrained,
-        endless: false,
     };
     holds(alloc, &stated, steps)
 }
@@ -454,41 +459,34 @@ fn a_condition_activates_a_requirement(rt: HostRuntime) -> Result<(), Fail> {
     Ok(())
 }
 
-#[test]
-fn a_cancelled_search_can_be_repeated(rt: HostRuntime) -> Result<(), Fail> {
+/// Returns whether ids run out behind two clauses with the first room, the problem has its answer with the second room,
+/// and also after each of them with the limits set back.
+fn runs_out<'x>(alloc: Global, little: Step<'x>, enough: Step<'x>) -> bool {
     let asked = Asked::Required(&[always(11)]);
+    let refused = Step::Solve(asked, Wanted::IdsBehind(2));
+    let answered = Step::Solve(asked, Wanted::Counted(&[11, 24], 3, 0));
     let steps = [
-        Step::StopAt(3),
-        Step::Solve(asked, Wanted::Stopped),
-        Step::Solve(asked, Wanted::Counted(&[11, 24], 3, 0)),
+        little,
+        refused,
+        Step::Unlimited,
+        answered,
+        enough,
+        answered,
+        Step::Unlimited,
+        answered,
     ];
-    assert!(rt; goes_over(rt.alloc(), &[(11, always(24))], &[], &steps));
-    Ok(())
+    goes_over(alloc, &[(11, always(24))], &[], &steps)
 }
 
 #[test]
 fn variables_run_out_at_the_limit(rt: HostRuntime) -> Result<(), Fail> {
-    let asked = Asked::Required(&[always(11)]);
-    let steps = [
-        Step::Room(2),
-        Step::Solve(asked, Wanted::IdsBehind(2)),
-        Step::Room(3),
-        Step::Solve(asked, Wanted::Counted(&[11, 24], 3, 0)),
-    ];
-    assert!(rt; goes_over(rt.alloc(), &[(11, always(24))], &[], &steps));
+    assert!(rt; runs_out(rt.alloc(), Step::Room(2), Step::Room(3)));
     Ok(())
 }
 
 #[test]
 fn clauses_run_out_at_the_limit(rt: HostRuntime) -> Result<(), Fail> {
-    let asked = Asked::Required(&[always(11)]);
-    let steps = [
-        Step::RoomForClauses(2),
-        Step::Solve(asked, Wanted::IdsBehind(2)),
-        Step::RoomForClauses(3),
-        Step::Solve(asked, Wanted::Counted(&[11, 24], 3, 0)),
-    ];
-    assert!(rt; goes_over(rt.alloc(), &[(11, always(24))], &[], &steps));
+    assert!(rt; runs_out(rt.alloc(), Step::RoomForClauses(2), Step::RoomForClauses(3)));
     Ok(())
 }
 
@@ -504,30 +502,10 @@ fn learnt_clauses_run_out_at_the_limit(rt: HostRuntime) -> Result<(), Fail> {
     let steps = [
         Step::RoomForLearning(0),
         Step::Solve(asked, Wanted::Ids),
-        Step::RoomForLearning(1000),
+        Step::Unlimited,
         Step::Solve(asked, Wanted::Refuted),
     ];
     assert!(rt; goes_over(rt.alloc(), &required, &[], &steps));
-    Ok(())
-}
-
-/// Returns whether both steps succeed with fifty variables in an endless universe.
-fn goes_in_endless<'x>(alloc: Global, first: Step<'x>, second: Step<'x>) -> bool {
-    let stated = Stated {
-        required: &[],
-        constrained: &[],
-        endless: true,
-    };
-    holds(alloc, &stated, &[Step::Room(50), first, second])
-}
-
-#[test]
-fn an_endless_universe_is_read_as_far_as_it_is_needed(rt: HostRuntime) -> Result<(), Fail> {
-    let plain = Asked::Required(&[always(0)]);
-    let held = Asked::Constrained(&[always(0)], &[VersionSetId(1)]);
-    let first = Step::Solve(plain, Wanted::Chosen(&[4]));
-    let second = Step::Solve(held, Wanted::Chosen(&[1, 14]));
-    assert!(rt; goes_in_endless(rt.alloc(), first, second));
     Ok(())
 }
 

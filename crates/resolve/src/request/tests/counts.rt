@@ -106,10 +106,11 @@ fn requirers_of_four_versions_share_a_gate(rt: HostRuntime) -> Result<(), Fail> 
     Ok(())
 }
 
-/// Returns an input that requires a package with this many versions, from 0 on.
+/// Returns an input that requires a package with this many versions, from 1 on.
 fn versions_of_z(alloc: Global, count: u32) -> Result<String, Fail> {
     let mut input = String::new(alloc);
-    for version in 0..count {
+    for place in 0..count {
+        let version = place.wrapping_add(1);
         write!(input, "package z={version}\n")?;
     }
     input.push_str("require z\n")?;

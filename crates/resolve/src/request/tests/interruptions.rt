@@ -1,43 +1,79 @@
-//! Each check that may stop a search does so in turn, and each answer of a provider is refused in turn.
+//! Each check that may stop a search does so in turn, and each answer and text of a provider is refused in turn.
 
+use super::sets::leave_no_set;
 use super::solving::{request, set_of};
 use super::wrapped::{Behaviour, Wrapped};
-use crate::catalog::Catalog;
-use crate::ids::SolvableId;
+use crate::ids::{NameId, SolvableId};
 use resolvo::{
     ConditionalRequirement, EmptySolvables, Exhausted, Problem, SoftRequirement, Solver,
     UnsolvableOrCancelled, VersionSetId,
 };
 use std::alloc::{AllocError, Global};
+use std::process::Abort;
 use std::test::Fail;
 
-/// The end of a call: the chosen set, the number of a conflict's rules, the cancel value, or the resource that ran out.
+/// The end of a call.
 #[derive(Clone, Copy, PartialEq)]
-enum Ended {
-    Chosen(u32),
-    Unsolvable(usize),
+pub enum Ended {
+    /// These solvables are chosen, of which these are exempt, and this many disjuncts are deferred.
+    Answer(u32, u32, usize),
+    /// There is a conflict, and no set of the first six solvables obeys its rules.
+    Refuted,
+    /// There is a conflict, and a set of the first six solvables obeys its rules.
+    Obeyed,
     Cancelled(u64),
     Exhausted(Exhausted),
 }
 
-/// The ends of two successive calls for the same problem, and the exempt solvables and the number of clauses after the
-/// first one.
-#[derive(Clone, Copy)]
-struct Twice {
-    first: Ended,
-    exempt: u32,
-    clauses: usize,
-    second: Ended,
+impl Ended {
+    /// Returns whether the call was stopped or refused.
+    fn is_early(self) -> bool {
+        matches!(self, Ended::Cancelled(_) | Ended::Exhausted(_))
+    }
 }
 
-fn ending_of(outcome: &Result<Vec<SolvableId>, UnsolvableOrCancelled<Wrapped<Catalog>>>) -> Ended {
+/// The ends of a call and, if it was stopped or refused, of the next one for the same problem. The counts are those
+/// after the first call.
+#[derive(Clone, Copy)]
+pub struct Twice {
+    pub first: Ended,
+    /// Whether two solvables are chosen in the first call or, if it was stopped, in the second one: first the first one,
+    /// then the second one.
+    in_order: bool,
+    pub exempt: usize,
+    clauses: usize,
+    checks: u64,
+    answers: u64,
+    log: u64,
+    pub second: Ended,
+}
+
+type Outcome = Result<Vec<SolvableId>, UnsolvableOrCancelled<Wrapped>>;
+
+fn ending_of(solver: &Solver<Wrapped>, outcome: &Outcome) -> Ended {
     match outcome {
-        Ok(chosen) => Ended::Chosen(set_of(chosen)),
+        Ok(chosen) => Ended::Answer(
+            set_of(chosen),
+            set_of(solver.exempt_solvables()),
+            solver.deferred_requirements_count(),
+        ),
         Err(UnsolvableOrCancelled::Unsolvable(conflict)) => {
-            Ended::Unsolvable(conflict.rules().len())
+            if leave_no_set(conflict.rules(), 64) {
+                Ended::Refuted
+            } else {
+                Ended::Obeyed
+            }
         }
         Err(UnsolvableOrCancelled::Cancelled(value)) => Ended::Cancelled(*value),
         Err(UnsolvableOrCancelled::Exhausted(e)) => Ended::Exhausted(*e),
+    }
+}
+
+/// Returns whether the first solvable and then the second one are chosen.
+fn are_in_order(outcome: &Outcome) -> bool {
+    match outcome {
+        Ok(chosen) => chosen.as_slice() == [SolvableId(0), SolvableId(1)].as_slice(),
+        Err(_) => false,
     }
 }
 
@@ -63,30 +99,37 @@ fn problem_of(
 
 fn solve_both(
     alloc: Global,
-    provider: Wrapped<Catalog>,
+    provider: Wrapped,
     first: InputProblem,
     second: InputProblem,
 ) -> Twice {
     let mut solver = Solver::new(alloc, provider);
-    let outcome = solver.solve(first);
-    let first = ending_of(&outcome);
-    drop(outcome);
-    let exempt = set_of(solver.exempt_solvables());
-    let clauses = solver.clause_count();
-    let outcome = solver.solve(second);
-    let second = ending_of(&outcome);
+    let mut outcome = solver.solve(first);
+    let ended = ending_of(&solver, &outcome);
+    let mut twice = Twice {
+        first: ended,
+        in_order: false,
+        exempt: solver.exempt_solvables().len(),
+        clauses: solver.clause_count(),
+        checks: solver.provider().checks(),
+        answers: solver.provider().answers(),
+        log: solver.provider().log(),
+        second: ended,
+    };
+    if ended.is_early() {
+        outcome = solver.solve(second);
+        twice.second = ending_of(&solver, &outcome);
+    } else {
+        drop(second);
+    }
+    twice.in_order = are_in_order(&outcome);
     drop(outcome);
     drop(solver);
-    Twice {
-        first,
-        exempt,
-        clauses,
-        second,
-    }
+    twice
 }
 
-/// Solves the problem of an input twice, with a provider of this behaviour.
-fn solve_twice(alloc: Global, input: &str, behaviour: Behaviour) -> Result<Twice, Fail> {
+/// Solves the problem of an input with a provider of this behaviour, and again if the first call was stopped or refused.
+pub fn solve_twice(alloc: Global, input: &str, behaviour: Behaviour) -> Result<Twice, Fail> {
     let request = request(alloc, input)?;
     let first = problem_of(
         alloc,
@@ -104,97 +147,135 @@ fn solve_twice(alloc: Global, input: &str, behaviour: Behaviour) -> Result<Twice
     Ok(solve_both(alloc, provider, first, second))
 }
 
-/// Stops the search at each check in turn, and returns the number of the first check that it does not reach.
-///
-/// The later the check, the more clauses are counted.
-fn stop_at_each_check(alloc: Global, input: &str) -> Result<u64, Fail> {
-    let undisturbed = solve_twice(alloc, input, Behaviour::Same)?;
-    let mut clauses = 0;
-    for check in 1..10_000 {
-        let twice = solve_twice(alloc, input, Behaviour::StoppedAt(check))?;
-        if twice.first == undisturbed.first {
-            return Ok(check);
-        }
-        if twice.second != undisturbed.first {
-            return Err(Fail::from("another outcome after it"));
-        }
-        if twice.first != Ended::Cancelled(check) || twice.exempt != 0 {
-            return Err(Fail::from("not cancelled"));
-        }
-        if twice.clauses < clauses || undisturbed.clauses < twice.clauses {
-            return Err(Fail::from("other clauses than those so far"));
-        }
-        clauses = twice.clauses;
-    }
-    Err(Fail::from("cancelled each time"))
-}
-
-/// Refuses each answer of the provider in turn, and returns the number of the first answer that the search does not
-/// need.
-fn refuse_each_answer(alloc: Global, input: &str) -> Result<u64, Fail> {
-    let undisturbed = solve_twice(alloc, input, Behaviour::Same)?;
-    let mut clauses = 0;
-    for answer in 1..10_000 {
-        let twice = solve_twice(alloc, input, Behaviour::RefusedAt(answer))?;
-        if twice.first == undisturbed.first {
-            return Ok(answer);
-        }
-        if twice.second != undisturbed.first {
-            return Err(Fail::from("another outcome after it"));
-        }
-        if twice.first != Ended::Exhausted(Exhausted::Memory) || twice.exempt != 0 {
-            return Err(Fail::from("not refused"));
-        }
-        if twice.clauses < clauses || undisturbed.clauses < twice.clauses {
-            return Err(Fail::from("other clauses than those so far"));
-        }
-        clauses = twice.clauses;
-    }
-    Err(Fail::from("refused each time"))
-}
-
-/// One requirement, soft requirements of all kinds, a shared requirement, a clash, a condition that does not hold, and
-/// one that does.
-const INPUTS: [&str; 6] = [
-    "package asdf=1\npackage efgh=4\npackage dummy=6\nrequires asdf=1 efgh\nrequire asdf\n",
-    "package a=1\npackage b=1\npackage b=2\npackage c=1\npackage d=1\npackage e=1\npackage locked=1\npackage locked=2\npackage unknown-deps=1\nrequires a=1 b@0..10\nrequires e=1 d\nlock locked=2\nunknown unknown-deps=1 no data\nrequire a@0..10\nconstrain b@1..2\nconstrain c\nsoft b=2\nsoft c=1\nsoft e=1\nsoft locked=1\nsoft unknown-deps=1\n",
-    "package x=1\npackage y=1\npackage z=1\npackage z=2\npackage z=3\npackage z=4\npackage z=5\nrequires x=1 z\nrequires y=1 z\nrequires z=5 missing\nrequire x\nrequire y\n",
-    "package p=1\npackage p=2\npackage q=1\npackage q=2\npackage r=1\npackage r=2\nrequires p=1 r@1\nrequires p=2 r@1\nrequires q=1 r@2\nrequires q=2 r@2\nrequire p\nrequire q\n",
-    "package p=1\npackage c=1\npackage e=1\npackage x=1\nrequires p=1 x if c or e\nrequire p\n",
-    "package p=1\npackage c=1\npackage e=1\npackage x=1\nrequires p=1 x if c or e\nrequire p\nrequire c\n",
+/// Inputs and their outcomes: one requirement, soft requirements of all kinds, a shared requirement, a clash, a condition
+/// that does not hold, and one that does.
+pub const ROWS: [(&str, Ended); 6] = [
+    (
+        "package asdf=1\npackage efgh=4\npackage dummy=6\nrequires asdf=1 efgh\nrequire asdf\n",
+        Ended::Answer(0b11, 0, 0),
+    ),
+    (
+        "package a=1\npackage b=1\npackage b=2\npackage c=1\npackage d=1\npackage e=1\npackage locked=1\npackage locked=2\npackage unknown-deps=1\nrequires a=1 b@0..10\nrequires e=1 d\nlock locked=2\nunknown unknown-deps=1 no data\nrequire a@0..10\nconstrain b@1..2\nconstrain c\nsoft b=2\nsoft c=1\nsoft e=1\nsoft locked=1\nsoft unknown-deps=1\n",
+        Ended::Answer(0b111_1011, 0b110_0000, 0),
+    ),
+    (
+        "package x=1\npackage y=1\npackage z=1\npackage z=2\npackage z=3\npackage z=4\npackage z=5\nrequires x=1 z\nrequires y=1 z\nrequires z=5 missing\nrequire x\nrequire y\n",
+        Ended::Answer(0b10_0011, 0, 0),
+    ),
+    (
+        "package p=1\npackage p=2\npackage q=1\npackage q=2\npackage r=1\npackage r=2\nrequires p=1 r@1\nrequires p=2 r@1\nrequires q=1 r@2\nrequires q=2 r@2\nrequire p\nrequire q\n",
+        Ended::Refuted,
+    ),
+    (
+        "package p=1\npackage c=1\npackage x=1\nrequires p=1 x if c or e\nrequire p\n",
+        Ended::Answer(0b1, 0, 2),
+    ),
+    (
+        "package p=1\npackage c=1\npackage x=1\nrequires p=1 x if c or e\nrequire p\nrequire c\n",
+        Ended::Answer(0b111, 0, 1),
+    ),
 ];
 
 #[test]
+fn each_row_is_met(rt: HostRuntime) -> Result<(), Fail> {
+    for (input, wanted) in ROWS {
+        let twice = solve_twice(rt.alloc(), input, Behaviour::Same)?;
+        assert!(rt; twice.first == wanted, "{input}");
+    }
+    Ok(())
+}
+
+/// Asserts that a call ended early, with nothing exempt and with clauses between these numbers, and that the next one
+/// meets the row.
+fn expect_early(
+    rt: &impl Abort,
+    twice: Twice,
+    early: Ended,
+    wanted: Ended,
+    clauses: (usize, usize),
+) {
+    assert!(rt; twice.first == early);
+    assert!(rt; twice.second == wanted);
+    assert_eq!(rt; twice.exempt, 0);
+    assert!(rt; clauses.0 <= twice.clauses && twice.clauses <= clauses.1);
+}
+
+/// Stops the search at each check that the provider counts. The later the check, the more clauses are counted.
+fn stop_at_each_check(rt: &impl Abort, alloc: Global, row: (&str, Ended)) -> Result<(), Fail> {
+    let undisturbed = solve_twice(alloc, row.0, Behaviour::Same)?;
+    let mut clauses = 0;
+    for check in 1..undisturbed.checks.saturating_add(1) {
+        let stopped = Behaviour::StoppedAt {
+            check,
+            value: check,
+        };
+        let twice = solve_twice(alloc, row.0, stopped)?;
+        let between = (clauses, undisturbed.clauses);
+        expect_early(rt, twice, Ended::Cancelled(check), row.1, between);
+        clauses = twice.clauses;
+    }
+    assert!(rt; 2 < undisturbed.checks);
+    Ok(())
+}
+
+/// Refuses each answer that the provider counts.
+fn refuse_each_answer(rt: &impl Abort, alloc: Global, row: (&str, Ended)) -> Result<(), Fail> {
+    let undisturbed = solve_twice(alloc, row.0, Behaviour::Same)?;
+    let mut clauses = 0;
+    for answer in 1..undisturbed.answers.saturating_add(1) {
+        let twice = solve_twice(alloc, row.0, Behaviour::RefusedAt(answer))?;
+        let between = (clauses, undisturbed.clauses);
+        let refused = Ended::Exhausted(Exhausted::Memory);
+        expect_early(rt, twice, refused, row.1, between);
+        clauses = twice.clauses;
+    }
+    assert!(rt; 2 < undisturbed.answers);
+    Ok(())
+}
+
+#[test]
 fn each_check_may_stop_the_search(rt: HostRuntime) -> Result<(), Fail> {
-    for input in INPUTS {
-        let first_unused = stop_at_each_check(rt.alloc(), input)?;
-        assert!(rt; first_unused > 2, "{input}");
+    for row in ROWS {
+        stop_at_each_check(&rt, rt.alloc(), row)?;
     }
     Ok(())
 }
 
 #[test]
 fn each_answer_of_the_provider_may_be_refused(rt: HostRuntime) -> Result<(), Fail> {
-    for input in INPUTS {
-        let first_unused = refuse_each_answer(rt.alloc(), input)?;
-        assert!(rt; first_unused > 2, "{input}");
+    for row in ROWS {
+        refuse_each_answer(&rt, rt.alloc(), row)?;
     }
     Ok(())
 }
 
-/// Returns whether an input has an answer with a provider that stops the search once more than three packages were
-/// asked.
-fn asks_for_three(alloc: Global, input: &str) -> Result<bool, Fail> {
-    let twice = solve_twice(alloc, input, Behaviour::StoppedBeyond(3))?;
-    Ok(matches!(twice.first, Ended::Chosen(_)))
+#[test]
+fn the_third_check_stops_the_search(rt: HostRuntime) -> Result<(), Fail> {
+    let stopped = Behaviour::StoppedAt { check: 3, value: 7 };
+    let twice = solve_twice(rt.alloc(), ROWS[0].0, stopped)?;
+    assert!(rt; twice.first == Ended::Cancelled(7));
+    assert!(rt; twice.second == Ended::Answer(0b11, 0, 0));
+    assert!(rt; twice.in_order);
+    Ok(())
 }
 
+/// The package x of the inputs with a condition.
+const X: NameId = NameId(2);
+
 #[test]
-fn the_package_behind_a_condition_is_asked_for_where_that_holds(
+fn the_package_behind_a_condition_is_not_asked_where_that_does_not_hold(
     rt: HostRuntime,
 ) -> Result<(), Fail> {
-    assert!(rt; asks_for_three(rt.alloc(), INPUTS[4])?);
-    assert!(rt; !asks_for_three(rt.alloc(), INPUTS[5])?);
+    let plain = solve_twice(rt.alloc(), ROWS[4].0, Behaviour::Same)?;
+    assert_eq!(rt; plain.log, 124);
+    let stopped = Behaviour::StoppedOnceAsked {
+        package: X,
+        value: 9,
+    };
+    let without = solve_twice(rt.alloc(), ROWS[4].0, stopped)?;
+    assert!(rt; without.first == Ended::Answer(0b1, 0, 2));
+    let with = solve_twice(rt.alloc(), ROWS[5].0, stopped)?;
+    assert!(rt; with.first == Ended::Cancelled(9));
     Ok(())
 }
 
@@ -209,7 +290,8 @@ const FAILING: &str =
 fn nothing_else_is_decided_while_versions_fail_one_after_another(
     rt: HostRuntime,
 ) -> Result<(), Fail> {
-    let twice = solve_twice(rt.alloc(), FAILING, Behaviour::StoppedAt(28))?;
-    assert!(rt; matches!(twice.first, Ended::Chosen(_)));
+    let twice = solve_twice(rt.alloc(), FAILING, Behaviour::Same)?;
+    assert!(rt; matches!(twice.first, Ended::Answer(_, _, _)));
+    assert!(rt; twice.checks < 28);
     Ok(())
 }

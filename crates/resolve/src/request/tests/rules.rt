@@ -279,12 +279,16 @@ fn the_plain_search_finds_no_set_for_a_conflict(rt: HostRuntime) -> Result<(), F
         "package a=1\npackage b=1\nrequires a=1 b\nrequire a\nconstrain b@2..3\n",
         "package a=1\npackage b=1\nrequires a=1 b\nrequires b=1 a\nrequires b=1 missing\nrequire a\n",
         "package p=1\npackage c=1\nrequires p=1 x if c\nrequire p\nrequire c\n",
+        OVERLAP,
     ];
     for input in inputs {
         assert!(rt; has_rules(rt.alloc(), input, Wanted::Refuted)?, "{input}");
     }
     Ok(())
 }
+
+const OVERLAP: &str =
+    "package a=1\npackage a=2\nexclude a=1 bad\nexclude a=2 bad\nrequire a@1..3 | a@2\n";
 
 /// Declares x 1, w 2, and z 1 to 4, in this order.
 const GATED: &str =
@@ -304,9 +308,7 @@ fn no_set_obeys_the_rules_over_a_gate_and_a_helper(rt: HostRuntime) -> Result<()
 
 #[test]
 fn a_union_that_overlaps_itself_lists_each_candidate_once(rt: HostRuntime) -> Result<(), Fail> {
-    let input =
-        "package a=1\npackage a=2\nexclude a=1 bad\nexclude a=2 bad\nrequire a@1..3 | a@2\n";
-    assert!(rt; has_rules(rt.alloc(), input, Wanted::BothExcluded)?);
+    assert!(rt; has_rules(rt.alloc(), OVERLAP, Wanted::BothExcluded)?);
     Ok(())
 }
 
@@ -320,43 +322,67 @@ fn a_needless_detour_is_not_named(rt: HostRuntime) -> Result<(), Fail> {
     Ok(())
 }
 
-/// The kind of a rule.
-#[derive(Clone, Copy, PartialEq)]
-enum Kind {
-    RootRequires,
-    SolvableRequires,
-    IsMarked,
-    Forbids,
-}
-
-fn kind_of(rule: &Rule<NameId, SolvableId>) -> Kind {
+/// Returns whether a rule is the unconditional requirement of these candidates.
+fn is_requirement(
+    rule: &Rule<NameId, SolvableId>,
+    wanted: By<SolvableId>,
+    listed: &[SolvableId],
+) -> bool {
     match rule {
-        Rule::Requires { by: By::Root, .. } => Kind::RootRequires,
-        Rule::Requires { .. } => Kind::SolvableRequires,
-        Rule::OnePerPackage { .. } => Kind::IsMarked,
-        _other => Kind::Forbids,
+        Rule::Requires {
+            by,
+            candidates,
+            when,
+            ..
+        } => *by == wanted && candidates.as_slice() == listed && when.is_empty(),
+        _other => false,
     }
 }
 
-fn count_of(rules: &[Rule<NameId, SolvableId>], kind: Kind) -> usize {
-    rules.iter().filter(|rule| kind_of(rule) == kind).count()
+/// Returns whether one of the rules is the unconditional requirement of these candidates.
+fn has_requirement(
+    rules: &[Rule<NameId, SolvableId>],
+    by: By<SolvableId>,
+    listed: &[SolvableId],
+) -> bool {
+    rules.iter().any(|rule| is_requirement(rule, by, listed))
 }
 
-/// The number of all rules, and of the rules of three kinds.
-#[derive(Clone, Copy, PartialEq)]
-struct Counts {
-    of_root: usize,
-    of_solvables: usize,
-    marks: usize,
-    all: usize,
+/// Returns whether one of the rules marks an instance of a package.
+fn has_mark(rules: &[Rule<NameId, SolvableId>], package: NameId, solvable: SolvableId) -> bool {
+    rules.iter().any(
+        |rule| matches!(rule, Rule::OnePerPackage { name, instance } if *name == package && *instance == solvable),
+    )
 }
 
-fn counts_of(rules: &[Rule<NameId, SolvableId>]) -> Counts {
-    Counts {
-        of_root: count_of(rules, Kind::RootRequires),
-        of_solvables: count_of(rules, Kind::SolvableRequires),
-        marks: count_of(rules, Kind::IsMarked),
-        all: rules.len(),
+/// Returns whether the rules are those of a clash, whose first package and first solvable have these numbers.
+fn are_clash(rules: &[Rule<NameId, SolvableId>], package: u32, first: u32) -> bool {
+    let r = NameId(package.saturating_add(2));
+    let at = |place: u32| SolvableId(first.saturating_add(place));
+    rules.len() == 8
+        && has_requirement(rules, By::Root, &[at(1), at(0)])
+        && has_requirement(rules, By::Root, &[at(3), at(2)])
+        && has_requirement(rules, By::Solvable(at(0)), &[at(4)])
+        && has_requirement(rules, By::Solvable(at(1)), &[at(4)])
+        && has_requirement(rules, By::Solvable(at(2)), &[at(5)])
+        && has_requirement(rules, By::Solvable(at(3)), &[at(5)])
+        && has_mark(rules, r, at(4))
+        && has_mark(rules, r, at(5))
+}
+
+/// A property of a minimal conflict's rules.
+#[derive(Clone, Copy)]
+enum Left {
+    /// There are this many.
+    Count(usize),
+    /// They are those of a clash, whose first package and first solvable have these numbers.
+    Clash(u32, u32),
+}
+
+fn are_left(rules: &[Rule<NameId, SolvableId>], left: Left) -> bool {
+    match left {
+        Left::Count(count) => rules.len() == count,
+        Left::Clash(package, first) => are_clash(rules, package, first),
     }
 }
 
@@ -385,8 +411,8 @@ fn are_irreducible(alloc: Global, rules: &[Rule<NameId, SolvableId>]) -> Result<
     Ok(are_refuted(alloc, rules))
 }
 
-/// Returns the number of rules in the minimal conflict of an input, if the plain search agrees that it is minimal.
-fn minimal_counts(alloc: Global, input: &str) -> Result<Counts, Fail> {
+/// Returns whether the minimal conflict of an input has these rules, if the plain search agrees that it is minimal.
+fn leaves(alloc: Global, input: &str, left: Left) -> Result<bool, Fail> {
     let solved = solve(alloc, Asked::new(input))?;
     let Err(UnsolvableOrCancelled::Unsolvable(conflict)) = &solved.outcome else {
         return Err(Fail::from("no conflict"));
@@ -395,29 +421,23 @@ fn minimal_counts(alloc: Global, input: &str) -> Result<Counts, Fail> {
         return Err(Fail::from("refused"));
     };
     match are_irreducible(alloc, minimal.rules()) {
-        Ok(true) => Ok(counts_of(minimal.rules())),
+        Ok(true) => Ok(are_left(minimal.rules(), left)),
         Ok(false) => Err(Fail::from("a rule can be left out")),
         Err(_) => Err(Fail::from("refused")),
     }
 }
 
 /// The same for a clash after this many packages without part in it.
-fn minimal_counts_after(alloc: Global, packages: u32) -> Result<Counts, Fail> {
+fn leaves_after(alloc: Global, packages: u32, left: Left) -> Result<bool, Fail> {
     let input = clash_after(alloc, packages)?;
-    minimal_counts(alloc, &input)
+    leaves(alloc, &input, left)
 }
 
 #[test]
 fn a_minimal_clash_has_eight_rules(rt: HostRuntime) -> Result<(), Fail> {
-    let eight = Counts {
-        of_root: 2,
-        of_solvables: 4,
-        marks: 2,
-        all: 8,
-    };
-    assert!(rt; minimal_counts(rt.alloc(), CLASH)? == eight);
-    assert!(rt; minimal_counts(rt.alloc(), CLASH_BEFORE_W)? == eight);
-    assert!(rt; minimal_counts_after(rt.alloc(), 200)? == eight);
+    assert!(rt; leaves(rt.alloc(), CLASH, Left::Clash(0, 0))?);
+    assert!(rt; leaves(rt.alloc(), CLASH_BEFORE_W, Left::Clash(0, 0))?);
+    assert!(rt; leaves_after(rt.alloc(), 200, Left::Clash(200, 400))?);
     Ok(())
 }
 
@@ -444,15 +464,11 @@ fn no_rule_of_a_minimal_conflict_can_be_left_out(rt: HostRuntime) -> Result<(), 
             "package p=1\npackage c=1\nrequires p=1 x if c\nrequire p\nrequire c\n",
             3,
         ),
-        (
-            "package a=1\npackage a=2\nexclude a=1 bad\nexclude a=2 bad\nrequire a@1..3 | a@2\n",
-            3,
-        ),
+        (OVERLAP, 3),
         (GATED, 7),
     ];
     for (input, count) in inputs {
-        let counts = minimal_counts(rt.alloc(), input)?;
-        assert!(rt; counts.all == count, "{input}");
+        assert!(rt; leaves(rt.alloc(), input, Left::Count(count))?, "{input}");
     }
     Ok(())
 }

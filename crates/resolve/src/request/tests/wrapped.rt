@@ -1,10 +1,14 @@
-//! A provider that wraps another one and behaves differently in one way: it hints at all candidates, stops a search, or
-//! refuses an answer for lack of memory.
+//! A catalog that behaves differently in one way: it hints at all candidates, stops a search, or refuses an answer for
+//! lack of memory. It counts its checks and answers, and logs the packages that it is asked for.
 
 ghost use Rattle.std.specs.Prelude.{◌≡◌, IfErr, true};
 ghost use Rattle.resolver_clause_store.specs.Universe.{package_of};
+ghost use Rattle.resolve.specs.CatalogLaws.{catalog_ids_lawful, catalog_packages_lawful, compares_solvables, same_names, same_solvables};
+ghost use Rattle.resolve.specs.Catalogs.{catalog_universe};
 ghost use Rattle.resolve.specs.Hinting.{hinted_ids_lawful, hinted_packages_lawful, with_hint, with_hints};
 
+use crate::catalog::Catalog;
+use crate::ids::{NameId, SolvableId};
 use resolver_clause_store::{
     Candidates, Condition, ConditionId, Dependencies, DependencyProvider, Exhausted,
     HintDependenciesAvailable, Interner, StringId, VersionSetId, VersionSetUnionId,
@@ -19,54 +23,85 @@ pub enum Behaviour {
     Same,
     /// The dependencies of all candidates are available, so that each candidate is read early.
     Hinting,
-    /// The cancel check with this number, counted from 1, stops the search with the number.
-    StoppedAt(u64),
-    /// The answer with this number, counted from 1, is refused for lack of memory.
+    /// The cancel check with this number, counted from 1, stops the search with this value.
+    StoppedAt { check: u64, value: u64 },
+    /// The answer or text with this number, counted from 1, is refused for lack of memory.
     RefusedAt(u64),
-    /// The search is stopped once more than this many packages were asked.
-    StoppedBeyond(u64),
+    /// Each cancel check after this package was asked stops the search with this value.
+    StoppedOnceAsked { package: NameId, value: u64 },
 }
 
-/// Another provider, which behaves differently in one way.
+/// A catalog that behaves differently in one way.
 #[derive(Drop)]
-pub struct Wrapped<P> {
+pub struct Wrapped {
     alloc: Global,
-    inner: P,
+    inner: Catalog,
     hints_all: bool,
-    /// The number of the check that stops the search, or 0. It is also the cancel value.
+    /// The value that stops a search.
+    cancel: u64,
+    /// The number of the check that stops the search, or 0.
     stopping: u64,
-    /// The number of the answer that is refused, or 0.
+    /// The package after which each check stops the search.
+    last: Option<NameId>,
+    /// Whether that package was asked.
+    is_over: Cell<bool>,
+    /// The number of the answer or text that is refused, or 0.
     refusing: u64,
-    /// The number of packages that may be asked.
-    most: u64,
     checks: Cell<u64>,
     answers: Cell<u64>,
-    packages: Cell<u64>,
+    log: Cell<u64>,
 }
 
-impl<P: Drop> Wrapped<P> {
-    pub fn new(alloc: Global, inner: P, behaviour: Behaviour) -> Self {
-        let (hints_all, stopping, refusing, most) = match behaviour {
-            Behaviour::Same => (false, 0, 0, u64::MAX),
-            Behaviour::Hinting => (true, 0, 0, u64::MAX),
-            Behaviour::StoppedAt(check) => (false, check, 0, u64::MAX),
-            Behaviour::RefusedAt(answer) => (false, 0, answer, u64::MAX),
-            Behaviour::StoppedBeyond(most) => (false, 0, 0, most),
+impl Wrapped {
+    pub fn new(alloc: Global, inner: Catalog, behaviour: Behaviour) -> Self {
+        let (hints_all, cancel, stopping, last, refusing) = match behaviour {
+            Behaviour::Same => (false, 0, 0, None, 0),
+            Behaviour::Hinting => (true, 0, 0, None, 0),
+            Behaviour::StoppedAt { check, value } => (false, value, check, None, 0),
+            Behaviour::RefusedAt(answer) => (false, 0, 0, None, answer),
+            Behaviour::StoppedOnceAsked { package, value } => (false, value, 0, Some(package), 0),
         };
         Wrapped {
             alloc,
             inner,
             hints_all,
+            cancel,
             stopping,
+            last,
+            is_over: Cell::new(false),
             refusing,
-            most,
             checks: Cell::new(0),
             answers: Cell::new(0),
-            packages: Cell::new(0),
+            log: Cell::new(0),
         }
     }
 
-    /// Counts an answer, and refuses it if its turn has come.
+    /// Returns the number of cancel checks so far.
+    pub fn checks(&self) -> u64 {
+        self.checks.get()
+    }
+
+    /// Returns the number of answers and texts so far.
+    pub fn answers(&self) -> u64 {
+        self.answers.get()
+    }
+
+    /// Returns the packages that were asked for their candidates: each has a digit, 1 for the first one.
+    pub fn log(&self) -> u64 {
+        self.log.get()
+    }
+
+    /// Notes that a package was asked for its candidates.
+    fn note(&self, name: NameId) {
+        let digit = u64::from(name.0).wrapping_add(1);
+        self.log
+            .set(self.log.get().wrapping_mul(10).wrapping_add(digit));
+        if self.last == Some(name) {
+            self.is_over.set(true);
+        }
+    }
+
+    /// Counts an answer or text, and refuses it if its turn has come.
     fn count(&self) -> Result<(), Exhausted>
         ensures memory { IfErr result (λ e. e ≡ Exhausted.Memory) }
     {
@@ -101,26 +136,26 @@ fn hinted<S: Drop>(alloc: Global, found: Option<Candidates<S>>) -> Option<Candid
     })
 }
 
-impl<P: DependencyProvider + Drop> Interner for Wrapped<P> {
-    type NameId = P::NameId;
+impl Interner for Wrapped {
+    type NameId = NameId;
 
-    type SolvableId = P::SolvableId;
+    type SolvableId = SolvableId;
 
-    ghost universe = { λ it. with_hints it.hints_all (P.universe it.inner) };
+    ghost universe = { λ it. with_hints it.hints_all (catalog_universe it.inner) };
 
-    ghost lawful_ids = { λ it. hinted_ids_lawful it.hints_all (P.universe it.inner) (P.lawful_ids it.inner) };
+    ghost lawful_ids = { λ it. hinted_ids_lawful it.hints_all (catalog_universe it.inner) (catalog_ids_lawful it.inner) };
 
-    ghost names_are_values = { P.names_are_values };
+    ghost names_are_values = { same_names };
 
-    ghost solvables_are_values = { P.solvables_are_values };
+    ghost solvables_are_values = { same_solvables };
 
-    ghost solvables_compare = { λ it. P.solvables_compare it.inner };
+    ghost solvables_compare = { λ it. compares_solvables it.inner };
 
-    fn solvable_name(&self, solvable: P::SolvableId) -> P::NameId {
+    fn solvable_name(&self, solvable: SolvableId) -> NameId {
         self.inner.solvable_name(solvable)
     }
 
-    fn version_set_name(&self, version_set: VersionSetId) -> P::NameId {
+    fn version_set_name(&self, version_set: VersionSetId) -> NameId {
         self.inner.version_set_name(version_set)
     }
 
@@ -132,7 +167,8 @@ impl<P: DependencyProvider + Drop> Interner for Wrapped<P> {
         self.inner.resolve_condition(condition)
     }
 
-    fn display_name(&self, name: P::NameId, out: &mut String) -> Result<(), Exhausted> {
+    fn display_name(&self, name: NameId, out: &mut String) -> Result<(), Exhausted> {
+        self.count()?;
         self.inner.display_name(name, out)
     }
 
@@ -141,35 +177,35 @@ impl<P: DependencyProvider + Drop> Interner for Wrapped<P> {
         version_set: VersionSetId,
         out: &mut String,
     ) -> Result<(), Exhausted> {
+        self.count()?;
         self.inner.display_version_set(version_set, out)
     }
 
     fn display_string(&self, string: StringId, out: &mut String) -> Result<(), Exhausted> {
+        self.count()?;
         self.inner.display_string(string, out)
     }
 
     fn display_merged_solvables(
         &self,
-        solvables: &[P::SolvableId],
+        solvables: &[SolvableId],
         out: &mut String,
     ) -> Result<(), Exhausted> {
+        self.count()?;
         self.inner.display_merged_solvables(solvables, out)
     }
 }
 
-impl<P: DependencyProvider + Drop> DependencyProvider for Wrapped<P> {
+impl DependencyProvider for Wrapped {
     type Cancel = u64;
 
-    ghost may_cancel = { λ it value. value ≡ it.stopping };
+    ghost may_cancel = { λ it value. value ≡ it.cancel };
 
-    ghost lawful_packages = { λ it. hinted_packages_lawful it.hints_all (P.universe it.inner) (P.lawful_packages it.inner) };
+    ghost lawful_packages = { λ it. hinted_packages_lawful it.hints_all (catalog_universe it.inner) (catalog_packages_lawful it.inner) };
 
-    fn get_candidates(
-        &self,
-        name: P::NameId,
-    ) -> Result<Option<Candidates<P::SolvableId>>, Exhausted> {
+    fn get_candidates(&self, name: NameId) -> Result<Option<Candidates<SolvableId>>, Exhausted> {
         self.count()?;
-        self.packages.set(self.packages.get().saturating_add(1));
+        self.note(name);
         let found = self.inner.get_candidates(name)?;
         if self.hints_all {
             return Ok(hinted(self.alloc, found));
@@ -177,7 +213,7 @@ impl<P: DependencyProvider + Drop> DependencyProvider for Wrapped<P> {
         Ok(found)
     }
 
-    fn get_dependencies(&self, solvable: P::SolvableId) -> Result<Dependencies, Exhausted> {
+    fn get_dependencies(&self, solvable: SolvableId) -> Result<Dependencies, Exhausted> {
         self.count()?;
         let dependencies = self.inner.get_dependencies(solvable)?;
         Ok(dependencies)
@@ -185,10 +221,10 @@ impl<P: DependencyProvider + Drop> DependencyProvider for Wrapped<P> {
 
     fn filter_candidates(
         &self,
-        candidates: &[P::SolvableId],
+        candidates: &[SolvableId],
         version_set: VersionSetId,
         inverse: bool,
-    ) -> Result<Vec<P::SolvableId>, Exhausted> {
+    ) -> Result<Vec<SolvableId>, Exhausted> {
         self.count()?;
         let kept = self
             .inner
@@ -196,7 +232,7 @@ impl<P: DependencyProvider + Drop> DependencyProvider for Wrapped<P> {
         Ok(kept)
     }
 
-    fn sort_candidates(&self, candidates: &mut Vec<P::SolvableId>) -> Result<(), Exhausted> {
+    fn sort_candidates(&self, candidates: &mut Vec<SolvableId>) -> Result<(), Exhausted> {
         self.count()?;
         self.inner.sort_candidates(candidates)?;
         Ok(())
@@ -205,8 +241,8 @@ impl<P: DependencyProvider + Drop> DependencyProvider for Wrapped<P> {
     fn should_cancel_with_value(&self) -> Option<u64> {
         let check = self.checks.get().saturating_add(1);
         self.checks.set(check);
-        if check == self.stopping || self.most < self.packages.get() {
-            return Some(self.stopping);
+        if check == self.stopping || self.is_over.get() {
+            return Some(self.cancel);
         }
         None
     }

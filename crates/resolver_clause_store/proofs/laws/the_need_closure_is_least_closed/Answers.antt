@@ -9,4 +9,4 @@ pub returns-clause-closed : goal.returns-clause-closed
 returns-clause-closed g c = λ u root seeds s h. IsNear-closed u root seeds s h
 
 pub returns-clause-least : goal.returns-clause-least
-returns-clause-least g c = λ u root seeds closed has step s h. IsNear-least u root seeds (λ t. closed t ≡ true) has step s h
+returns-clause-least g c = λ u root seeds test closed s h. IsNear-least u root seeds (λ t. test t ≡ true) closed.has_seeds closed.has_next s h

@@ -33,9 +33,9 @@ returns-in_ok-add_gate-in-GateRequires g c =
           λ k. AddsRules (StatesRule u c.args.sources.now k) c.args.listing.now c.add_gate.new.listing in
           let named = IsNamed c.args.sources.now.gates r in
           subst Adds (sym c.in-GateRequires.is) (added_same c.args.listing.now c.add_gate.new.listing
-          (SomeOf c.requirers.result.now (λ s st. st ≡ requires (BySolvable s) r (requirement_candidates u r) [])) _
-          (λ st h. (h.0, All-contains named c.requirers.result.now h.0 c.requirers.ensures.each h.1, h.2))
-          (λ st h. (h.0, c.requirers.ensures.every c.requires.groups h.0 h.1, h.2))
+          (SomeOf c.requirers-requirers.result.now (λ s st. st ≡ requires (BySolvable s) r (requirement_candidates u r) [])) _
+          (λ st h. (h.0, All-contains named c.requirers-requirers.result.now h.0 c.requirers-requirers.ensures.each h.1, h.2))
+          (λ st h. (h.0, c.requirers-requirers.ensures.every c.requires.groups h.0 h.1, h.2))
           c.in_ok-add_gate-in-GateRequires.ensures.added);
       is_true = c.add_gate.ensures.is_true;
       refusal = tt;
@@ -61,9 +61,9 @@ returns-in_ok-constrain_each-in-ConstrainsParent g c =
           λ k. AddsRules (StatesRule u c.args.sources.now k) c.args.listing.now c.constrain_each.new.listing in
           let named = IsNamed c.args.sources.now.helpers v in
           subst Adds (sym c.in-ConstrainsParent.is) (added_same c.args.listing.now c.constrain_each.new.listing
-          (SomeOf c.excluded.result.now (λ s st. st ≡ constrains by v s)) _
-          (λ st h. (h.0, All-contains named c.excluded.result.now h.0 c.excluded.ensures.each h.1, h.2))
-          (λ st h. (h.0, c.excluded.ensures.every c.requires.groups h.0 h.1, h.2))
+          (SomeOf c.excluded-excluded.result.now (λ s st. st ≡ constrains by v s)) _
+          (λ st h. (h.0, All-contains named c.excluded-excluded.result.now h.0 c.excluded-excluded.ensures.each h.1, h.2))
+          (λ st h. (h.0, c.excluded-excluded.ensures.every c.requires.groups h.0 h.1, h.2))
           c.in_ok-constrain_each-in-ConstrainsParent.ensures.added);
       is_true = c.requires.is_true;
       refusal = tt;

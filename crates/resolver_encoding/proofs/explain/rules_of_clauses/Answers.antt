@@ -1,4 +1,4 @@
-use Rattle.std.proofs.Common.{refl, ℕ, Bool, List, arith, rules, sym, subst, ap, take}
+use Rattle.std.proofs.Common.{◌<◌, ◌∙◌, ℕ, Bool, List, arith, rules, sym, subst, ap, take, length}
 use Rattle.std.specs.Prelude.{slice_index_or}
 use Rattle.std.proofs.lemmas.List.{get_or_default, take_all}
 use Rattle.resolver_clause_store.specs.Laws.{IsIdentity}
@@ -20,21 +20,29 @@ loop-number-init g c = record {
   rules = no_rules c.new-listing.result (States (g.D.Interner.universe c.args.provider.now) c.in_ok-sources.sources) c.new-listing.ensures.none;
 }
 
+pub bounds-kinds-number : goal.bounds-kinds-number
+bounds-kinds-number g c =
+    let i = c.loop-number.number-index in
+    let below : i < length c.args.numbers.now = search rules in
+    omega (arith, c.requires.within i 0 below)
+
 pub loop-number-preserved : goal.loop-number-preserved
 loop-number-preserved g c =
     let u = g.D.Interner.universe c.args.provider.now in
     let i = c.loop-number.number-index in
     let n = slice_index_or c.args.numbers.now i 0 in
-    let k = slice_index_or c.args.kinds.now n InstallRoot in
+    let k = c.index-kinds-number.result in
+    let below : i < length c.args.numbers.now = search rules in
+    let is = c.index-kinds-number.is ∙ get_or_default c.args.kinds.now n k InstallRoot (c.requires.within i 0 below) in
     let says = States u c.in_ok-sources.sources in
-    let adds = c.in_ok-add_clause.ensures.added in
+    let adds = c.in_ok-add_stated.ensures.added in
     let Are : List (ClauseKind g.row.D-NameId.Denot g.row.D-SolvableId.Denot) → Type 0 =
-    λ ks. AreRulesOf (SomeOf ks says) c.add_clause.new.listing.rules.items in
+    λ ks. AreRulesOf (SomeOf ks says) c.add_stated.new.listing.rules.items in
     record {
-      is_true = c.in_ok-add_clause.ensures.is_true;
+      is_true = c.in_ok-add_stated.ensures.is_true;
       instances = adds.instances;
-      rules = subst Are (sym (kinds_next c.args.kinds.now c.args.numbers.now i n k (search rules) (get_or_default c.args.numbers.now i 0 n (search rules)) refl))
-          (rules_next c.loop-number.listing c.add_clause.new.listing
+      rules = subst Are (sym (kinds_next c.args.kinds.now c.args.numbers.now i n k below (get_or_default c.args.numbers.now i 0 n below) is))
+          (rules_next c.loop-number.listing c.add_stated.new.listing
           (kinds_at c.args.kinds.now (take i c.args.numbers.now)) k says c.loop-number.invariant.rules adds);
     }
 
@@ -66,6 +74,6 @@ returns-clause-stated g c =
     all_stated u g.D.NameId.PartialEq.eq names same core c.in_ok-sources.sources c.in_ok-sources.ensures.are c.into_rules.result.items
     (subst By (ap (λ x. x.items) (sym c.into_rules.ensures)) all)
 
-pub returns-in_err-add_clause-clause-refusal : goal.returns-in_err-add_clause-clause-refusal
-returns-in_err-add_clause-clause-refusal g c = IfErr-of c.from_residual-in_err-add_clause.result _ _ c.from_residual-in_err-add_clause.ensures.1
-    c.in_err-add_clause.ensures.refusal
+pub returns-in_err-add_stated-clause-refusal : goal.returns-in_err-add_stated-clause-refusal
+returns-in_err-add_stated-clause-refusal g c = IfErr-of c.from_residual-in_err-add_stated.result _ _ c.from_residual-in_err-add_stated.ensures.1
+    c.in_err-add_stated.ensures.refusal

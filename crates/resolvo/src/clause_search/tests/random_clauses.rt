@@ -54,11 +54,8 @@ fn draw_clauses(alloc: Global, seed: u32, count: u32) -> Result<Vec<Vec<Drawn>>,
 fn literals_of(alloc: Global, clause: &[Drawn]) -> Result<Vec<Literal>, AllocError> {
     let mut literals = Vec::new(alloc);
     for (number, positive) in clause {
-        let variable = Variable::new(*number);
-        literals.push(Literal {
-            variable,
-            positive: *positive,
-        })?;
+        let variable = Variable::new(*number % VARIABLES);
+        literals.push(Literal::new(variable, *positive))?;
     }
     Ok(literals)
 }

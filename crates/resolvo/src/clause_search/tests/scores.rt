@@ -5,7 +5,7 @@ ghost use Rattle.resolvo.specs.ClauseSearches.{IsConsistent};
 use super::{Requirements, finishes, load_given, provider_of_nothing, slot_of};
 use crate::clause_search::ClauseSearch;
 use crate::test_provider::TestProvider;
-use resolver_clause_store::{Activity, Clauses, Literal, Owner, Scores, Variable, clause};
+use resolver_clause_store::{Activity, Clauses, Literal, Owner, Variable, clause};
 use std::alloc::{AllocError, Global};
 use std::test::Fail;
 
@@ -28,7 +28,7 @@ struct Seen {
     /// The number of clauses that it learnt, and the number of those with just one solvable of the first package.
     learnt: usize,
     with_one: usize,
-    /// The score of the first package by these clauses.
+    /// The score that the search gives the first package in the end.
     score: u64,
     /// Whether the requirement with three candidates was decided before the one with two.
     wide_first: bool,
@@ -42,7 +42,7 @@ struct Given {
     requirements: Requirements,
     owners: Vec<Owner>,
     /// The number of the next variable.
-    next: u32,
+    next: u16,
 }
 
 impl Given {
@@ -57,7 +57,7 @@ impl Given {
     }
 
     /// Adds a variable with this owner, and returns its number.
-    fn add_variable(&mut self, owner: Owner) -> Result<u32, AllocError> {
+    fn add_variable(&mut self, owner: Owner) -> Result<u16, AllocError> {
         let number = self.next;
         self.owners.push(owner)?;
         self.next = number.wrapping_add(1);
@@ -80,7 +80,7 @@ impl Given {
     }
 
     /// Adds a requirement of a requirer with this many candidates of a package.
-    fn require(&mut self, requirer: u32, package: usize, count: usize) -> Result<(), AllocError> {
+    fn require(&mut self, requirer: u16, package: usize, count: usize) -> Result<(), AllocError> {
         let mut clause = vec![in self.alloc; is_false(requirer)]?;
         for _ in 0..count {
             clause.push(is_true(self.add_variable(Owner::package(package)?)?))?;
@@ -90,7 +90,7 @@ impl Given {
     }
 
     /// Adds a requirement of the root that tries a candidate of a package first. Returns that candidate.
-    fn require_one(&mut self, package: usize) -> Result<u32, AllocError> {
+    fn require_one(&mut self, package: usize) -> Result<u16, AllocError> {
         let tried = self.add_variable(Owner::package(package)?)?;
         let left = self.add_variable(Owner::none())?;
         let mut clause = vec![in self.alloc; is_true(tried)]?;
@@ -122,24 +122,18 @@ impl Given {
     }
 }
 
-fn is_true(number: u32) -> Literal {
-    Literal {
-        variable: Variable::new(number),
-        positive: true,
-    }
+fn is_true(number: u16) -> Literal {
+    Literal::new(Variable::new(u32::from(number)), true)
 }
 
-fn is_false(number: u32) -> Literal {
-    Literal {
-        variable: Variable::new(number),
-        positive: false,
-    }
+fn is_false(number: u16) -> Literal {
+    Literal::new(Variable::new(u32::from(number)), false)
 }
 
 /// Returns the clauses of a chosen solvable that requires the first package and the second one, and those that lead to
 /// learnt clauses.
 ///
-/// The first candidates of the two packages are the literals 2 and 5.
+/// The first candidates of the two packages are the literals 2 and 5, of variables 1 and 4.
 fn given_for(alloc: Global, learnt: &[Learnt<'_>]) -> Result<Given, AllocError> {
     let mut given = Given::new(alloc);
     let requirer = given.add_variable(Owner::none())?;
@@ -156,7 +150,7 @@ fn given_for(alloc: Global, learnt: &[Learnt<'_>]) -> Result<Given, AllocError> 
 fn count_in(clause: &[Literal], owners: &[Owner]) -> usize {
     let mut count = 0usize;
     for literal in clause {
-        if let Some(owner) = owners.get(literal.variable.index()) {
+        if let Some(owner) = owners.get(literal.variable().index()) {
             if owner.number() == Some(WIDE) {
                 count = count.saturating_add(1);
             }
@@ -176,26 +170,6 @@ fn clauses_with_one(clauses: &Clauses, from: usize, owners: &[Owner]) -> usize {
     count
 }
 
-/// Returns the score of the first package by the clauses from a number on, which were learnt: each of its solvables in
-/// a clause adds to the score, which then decays.
-fn score_by(
-    alloc: Global,
-    activity: Activity,
-    clauses: &Clauses,
-    from: usize,
-    owners: &[Owner],
-) -> Result<u64, AllocError> {
-    let mut scores = Scores::new(alloc, activity);
-    let mut learnt = 0u64;
-    'clauses: for number in from..clauses.len() {
-        for _ in 0..count_in(clause(clauses, number), owners) {
-            scores.add(WIDE, learnt)?;
-        }
-        learnt = learnt.saturating_add(1);
-    }
-    Ok(scores.read(WIDE, learnt))
-}
-
 /// Returns whether the first candidate of the first package was decided before that of the second one.
 fn is_wide_first(search: &ClauseSearch) -> bool {
     match (slot_of(search, 2), slot_of(search, 5)) {
@@ -210,31 +184,28 @@ fn seen_in(
     search: &mut ClauseSearch,
     provider: &TestProvider,
     given: &Given,
-    activity: Activity,
-) -> Result<Option<Seen>, AllocError>
+) -> Option<Seen>
     requires { IsConsistent search.old }
 {
     let variables = given.owners.len();
     if !load_given(
-        alloc,
         search,
         &given.table,
         &given.requirements,
         variables,
         &given.owners,
     ) {
-        return Ok(None);
+        return None;
     }
     if !finishes(alloc, search, provider) {
-        return Ok(None);
+        return None;
     }
-    let from = given.table.len();
-    Ok(Some(Seen {
+    Some(Seen {
         learnt: search.learnt_count(),
-        with_one: clauses_with_one(&search.table, from, &given.owners),
-        score: score_by(alloc, activity, &search.table, from, &given.owners)?,
+        with_one: clauses_with_one(&search.table, given.table.len(), &given.owners),
+        score: search.queue.score_of(Variable::new(1)),
         wide_first: is_wide_first(search),
-    }))
+    })
 }
 
 /// Returns the result of a new search that learns clauses with candidates of these packages.
@@ -248,9 +219,9 @@ fn seen_after(
     let given = given_for(alloc, learnt)?;
     let provider = provider_of_nothing(alloc);
     let mut search = ClauseSearch::new(alloc, activity);
-    let seen = seen_in(alloc, &mut search, &provider, &given, activity);
+    let seen = seen_in(alloc, &mut search, &provider, &given);
     drop(search);
-    seen
+    Ok(seen)
 }
 
 /// Returns whether a new search decides the requirement with three candidates first.

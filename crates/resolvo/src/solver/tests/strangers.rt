@@ -1,9 +1,9 @@
 //! A solvable that no package lists, and packages without end.
 
 ghost use Rattle.std.specs.Prelude.{◌≡◌, IfErr, IfOk, refl};
-ghost use Rattle.resolvo.specs.ChainProvider.{chain_ids_lawful, chain_packages_lawful, chain_universe, required_below};
+ghost use Rattle.resolver_clause_store.specs.Laws.{numbers_are_values};
+ghost use Rattle.resolvo.specs.ChainProvider.{chain_ids_lawful, chain_packages_lawful, chain_universe, required_below, candidates_in};
 ghost use Rattle.resolvo.specs.Solvers.{IsSound, provider_in};
-ghost use Rattle.resolvo.specs.TestProvider.{numbers_are_values};
 
 use crate::problem::Problem;
 use crate::solver::{Solver, UnsolvableOrCancelled};
@@ -15,45 +15,65 @@ use resolver_clause_store::{
 use std::alloc::{AllocError, Global};
 use std::test::Fail;
 
-/// A provider of packages in a row: package n, below 4294967295, has only the candidate n, which is the only member of
-/// version set n. It is made when the package is asked.
+/// A provider of packages in a row: package n, below 4294967295, has the candidate n, after the candidate 2^32 + n if its
+/// packages have two. They are made when the package is asked, and version set n has both.
 #[derive(Drop)]
 struct Chain {
     alloc: Global,
     /// Each candidate below this number requires the version set of the next package.
     reach: u32,
+    /// Whether each package has two candidates.
+    paired: bool,
 }
 
+/// The number of packages.
+const PACKAGES: u32 = 4_294_967_295;
+
 /// A solvable with the name of package 0, which no package lists.
-const STRANGER: u32 = 4_294_967_295;
+const STRANGER: u64 = 4_294_967_295;
+
+/// The newer candidate of package 0.
+const NEWER: u64 = 4_294_967_296;
 
 /// Returns the requirements of a solvable.
 fn required_by(
     alloc: Global,
     reach: u32,
-    solvable: u32,
+    solvable: u64,
 ) -> Result<Vec<ConditionalRequirement>, Exhausted>
     ensures value { IfOk result (λ required. required.items ≡ required_below reach solvable) }
     ensures memory { IfErr result (λ e. e ≡ Exhausted.Memory) }
 {
-    if solvable < reach {
+    if solvable < u64::from(reach) {
         let next = ConditionalRequirement {
             condition: None,
-            requirement: Requirement::Single(VersionSetId(solvable + 1)),
+            requirement: Requirement::Single(VersionSetId(solvable as u32 + 1)),
         };
         return Ok(Vec::from_array(alloc, [next])?);
     }
     Ok(Vec::new(alloc))
 }
 
+/// Returns the candidates of a package.
+fn candidates_of(alloc: Global, paired: bool, name: u32) -> Result<Vec<u64>, Exhausted>
+    ensures value { IfOk result (λ candidates. candidates.items ≡ candidates_in paired name) }
+    ensures memory { IfErr result (λ e. e ≡ Exhausted.Memory) }
+{
+    let older = u64::from(name);
+    if paired {
+        return Ok(Vec::from_array(alloc, [NEWER + older, older])?);
+    }
+    Ok(Vec::from_array(alloc, [older])?)
+}
+
 impl Interner for Chain {
     type NameId = u32;
 
-    type SolvableId = u32;
+    type SolvableId = u64;
 
-    ghost universe = { λ it. chain_universe it.reach };
+    ghost universe = { λ it. chain_universe it.reach it.paired };
 
-    ghost lawful_ids = { λ it. chain_ids_lawful it.reach };
+    ghost lawful_ids = { λ it. chain_ids_lawful it.reach it.paired };
 
     ghost names_are_values = { numbers_are_values };
 
@@ -61,8 +81,13 @@ impl Interner for Chain {
 
     ghost solvables_compare = { λ it. refl };
 
-    fn solvable_name(&self, solvable: u32) -> u32 {
-        if solvable < STRANGER { solvable } else { 0 }
+    fn solvable_name(&self, solvable: u64) -> u32 {
+        let place = solvable % 4_294_967_296;
+        if place < 4_294_967_295 {
+            place as u32
+        } else {
+            0
+        }
     }
 
     fn version_set_name(&self, version_set: VersionSetId) -> u32 {
@@ -95,7 +120,7 @@ impl Interner for Chain {
 
     fn display_merged_solvables(
         &self,
-        _solvables: &[u32],
+        _solvables: &[u64],
         _out: &mut String,
     ) -> Result<(), Exhausted> {
         Ok(())
@@ -107,14 +132,14 @@ impl DependencyProvider for Chain {
 
     ghost may_cancel = { λ _ value. value ≡ 7 };
 
-    ghost lawful_packages = { λ it. chain_packages_lawful it.reach };
+    ghost lawful_packages = { λ it. chain_packages_lawful it.reach it.paired };
 
-    fn get_candidates(&self, name: u32) -> Result<Option<Candidates<u32>>, Exhausted> {
-        if name >= STRANGER {
+    fn get_candidates(&self, name: u32) -> Result<Option<Candidates<u64>>, Exhausted> {
+        if name >= PACKAGES {
             return Ok(None);
         }
         Ok(Some(Candidates {
-            candidates: Vec::from_array(self.alloc, [name])?,
+            candidates: candidates_of(self.alloc, self.paired, name)?,
             favored: None,
             locked: None,
             hint_dependencies_available: HintDependenciesAvailable::None,
@@ -122,7 +147,7 @@ impl DependencyProvider for Chain {
         }))
     }
 
-    fn get_dependencies(&self, solvable: u32) -> Result<Dependencies, Exhausted> {
+    fn get_dependencies(&self, solvable: u64) -> Result<Dependencies, Exhausted> {
         let requirements = required_by(self.alloc, self.reach, solvable)?;
         Ok(Dependencies::Known(KnownDependencies {
             requirements,
@@ -132,20 +157,20 @@ impl DependencyProvider for Chain {
 
     fn filter_candidates(
         &self,
-        candidates: &[u32],
+        candidates: &[u64],
         version_set: VersionSetId,
         inverse: bool,
-    ) -> Result<Vec<u32>, Exhausted> {
+    ) -> Result<Vec<u64>, Exhausted> {
         let mut kept = Vec::new(self.alloc);
         for solvable in candidates {
-            if (*solvable == version_set.0) != inverse {
+            if (*solvable % 4_294_967_296 == u64::from(version_set.0)) != inverse {
                 kept.push(*solvable)?;
             }
         }
         Ok(kept)
     }
 
-    fn sort_candidates(&self, _candidates: &mut Vec<u32>) -> Result<(), Exhausted> {
+    fn sort_candidates(&self, _candidates: &mut Vec<u64>) -> Result<(), Exhausted> {
         Ok(())
     }
 
@@ -159,14 +184,14 @@ impl DependencyProvider for Chain {
 struct Asked<'x> {
     required: &'x [ConditionalRequirement],
     constrained: &'x [VersionSetId],
-    soft: &'x [u32],
+    soft: &'x [u64],
 }
 
 /// The expected result of a problem.
 #[derive(Clone, Copy)]
 enum Wanted<'x> {
     /// The first solvables are chosen, and of these the second ones are exempt.
-    Answer(&'x [u32], &'x [u32]),
+    Answer(&'x [u64], &'x [u64]),
     /// Ids run out.
     Ids,
 }
@@ -177,9 +202,9 @@ const FIRST: ConditionalRequirement = ConditionalRequirement {
     requirement: Requirement::Single(VersionSetId(0)),
 };
 
-type Outcome = Result<Vec<u32>, UnsolvableOrCancelled<Chain>>;
+type Outcome = Result<Vec<u64>, UnsolvableOrCancelled<Chain>>;
 
-fn is_answer(outcome: &Outcome, wanted: &[u32]) -> bool {
+fn is_answer(outcome: &Outcome, wanted: &[u64]) -> bool {
     match outcome {
         Ok(chosen) => chosen.as_slice() == wanted,
         Err(_) => false,
@@ -203,10 +228,10 @@ fn ends_with(
     solver: &mut Solver<Chain>,
     required: Vec<ConditionalRequirement>,
     constrained: Vec<VersionSetId>,
-    soft: Vec<u32>,
+    soft: Vec<u64>,
     wanted: &Wanted<'_>,
 ) -> bool
-    requires { IsSound (chain_universe (provider_in solver.old).reach) solver.old }
+    requires { IsSound (chain_universe (provider_in solver.old).reach (provider_in solver.old).paired) solver.old }
 {
     let problem = Problem::new()
         .requirements(required)
@@ -222,7 +247,7 @@ fn solves(
     asked: &Asked<'_>,
     wanted: &Wanted<'_>,
 ) -> Result<bool, AllocError>
-    requires { IsSound (chain_universe (provider_in solver.old).reach) solver.old }
+    requires { IsSound (chain_universe (provider_in solver.old).reach (provider_in solver.old).paired) solver.old }
 {
     let required = Vec::from_slice(solver.alloc, asked.required)?;
     let constrained = Vec::from_slice(solver.alloc, asked.constrained)?;
@@ -237,7 +262,7 @@ fn solves_within(
     asked: &Asked<'_>,
     wanted: &Wanted<'_>,
 ) -> Result<bool, AllocError>
-    requires { IsSound (chain_universe (provider_in solver.old).reach) solver.old }
+    requires { IsSound (chain_universe (provider_in solver.old).reach (provider_in solver.old).paired) solver.old }
 {
     solver.variable_limit = room as usize;
     solves(solver, asked, wanted)
@@ -247,10 +272,15 @@ fn solves_within(
 fn chooses<'x>(
     alloc: Global,
     asked: Asked<'x>,
-    chosen: &'x [u32],
-    exempt: &'x [u32],
+    chosen: &'x [u64],
+    exempt: &'x [u64],
 ) -> Result<bool, AllocError> {
-    let mut solver = Solver::new(alloc, Chain { alloc, reach: 0 });
+    let chain = Chain {
+        alloc,
+        reach: 0,
+        paired: false,
+    };
+    let mut solver = Solver::new(alloc, chain);
     let is_right = solves(&mut solver, &asked, &Wanted::Answer(chosen, exempt));
     drop(solver);
     is_right
@@ -289,27 +319,32 @@ fn one_beside_what_is_chosen_of_its_package_is_refused(rt: HostRuntime) -> Resul
     Ok(())
 }
 
-/// Returns whether ids run out in an endless universe with room for this many variables.
-fn runs_out(alloc: Global, room: u16) -> Result<bool, AllocError> {
+/// Returns whether the requirement of package 0 has this result in an endless universe, with room for fifty variables.
+fn ends_in_endless(alloc: Global, paired: bool, wanted: &Wanted<'_>) -> Result<bool, AllocError> {
     let asked = Asked {
         required: &[FIRST],
         constrained: &[],
         soft: &[],
     };
-    let mut solver = Solver::new(
+    let chain = Chain {
         alloc,
-        Chain {
-            alloc,
-            reach: STRANGER,
-        },
-    );
-    let is_right = solves_within(&mut solver, room, &asked, &Wanted::Ids);
+        reach: PACKAGES,
+        paired,
+    };
+    let mut solver = Solver::new(alloc, chain);
+    let is_right = solves_within(&mut solver, 50, &asked, wanted);
     drop(solver);
     is_right
 }
 
 #[test]
 fn an_endless_universe_runs_out_of_variables(rt: HostRuntime) -> Result<(), Fail> {
-    assert!(rt; runs_out(rt.alloc(), 50)?);
+    assert!(rt; ends_in_endless(rt.alloc(), false, &Wanted::Ids)?);
+    Ok(())
+}
+
+#[test]
+fn an_endless_universe_is_read_as_far_as_it_is_needed(rt: HostRuntime) -> Result<(), Fail> {
+    assert!(rt; ends_in_endless(rt.alloc(), true, &Wanted::Answer(&[NEWER], &[]))?);
     Ok(())
 }

@@ -2,8 +2,8 @@ use Rattle.std.proofs.Common.{◌≡◌, rules, ap, ◌∙◌, nat_cmp}
 use Rattle.std.specs.Prelude.{map}
 use Rattle.resolver_report.proofs.ItemLemmas.{items_of_vec}
 use Rattle.resolve.specs.Packages.{version_at}
-use Rattle.resolve.specs.Sorting.{sorted_by}
-use Rattle.resolve.specs.SortingLemmas.{sorted_by-numbers}
+use Rattle.resolver_clause_store.specs.Sorting.{sorted_by}
+use Rattle.resolver_clause_store.specs.SortingLemmas.{sorted_by-numbers}
 use Rattle.resolve.proofs.catalog.Catalog.rising_versions.Goals as goal
 
 pub returns-clause-versions : goal.returns-clause-versions

@@ -1,9 +1,9 @@
 use Rattle.std.proofs.Common.{◌≡◌, ◌<◌, ◌∙◌, ap, length, refl, rules}
 use Rattle.std.proofs.lemmas.List.{get_or_read_under}
 use Rattle.std.specs.Vec.{vec_len}
-use Rattle.resolver_clause_store.specs.declared.literals.Literal.{Literal}
+use Rattle.resolver_clause_store.specs.Literals.{list_number}
 use Rattle.resolver_clause_store.specs.declared.pairs.WatchedPair.{WatchedPair}
-use Rattle.resolver_clause_store.specs.Watches.{list_number, replaced, unwatched}
+use Rattle.resolver_clause_store.specs.Watches.{replaced, unwatched}
 use Rattle.resolver_clause_store.proofs.WatchListLemmas.{listed-watching, watching-number, IsMove, move-watched, move-moves, move-fit}
 use Rattle.resolver_clause_store.proofs.watches.Watches.move_watch.Goals as goal
 
@@ -20,17 +20,15 @@ moves : (c : goal.After-self-2-1) →
     IsMove c.args.self.now.lists c.push.new.self c.take.new.self c.args.self.now.pairs.items c.args.from c.args.to
     c.args.placed.now.place c.args.blocker c.args.start c.args.placed.now.watch c.replace.new.self
 moves c =
-    let from_list = c.list_number-2.ensures ∙ ap (λ (l : Literal). list_number l) c.copied-2.ensures in
-    let to_list = c.list_number.ensures ∙ ap (λ (l : Literal). list_number l) c.copied.ensures in
     let inside : c.args.placed.now.watch.number < length c.args.self.now.pairs.items =
     watching-number _ _ c.args.from (listed-watching _ _ _ _ _ c.args.self.now.watched c.requires.placed) in
     record {
-      differ = c.requires.differ;
       value = c.requires.placed;
       inside = inside;
+      free = c.requires.unwatched;
       watching = listed-watching _ _ _ _ _ c.args.self.now.watched c.requires.placed;
-      pushed = rw to_list at c.in_ok-push.ensures.pushed;
-      taken = rw from_list at c.take.ensures c.args.placed.now.watch;
+      pushed = rw c.list_number.ensures at c.in_ok-push.ensures.pushed;
+      taken = rw c.list_number-2.ensures at c.take.ensures c.args.placed.now.watch;
       pair_is = c.replace.ensures ∙ ap (λ (p : WatchedPair). replaced p c.args.from c.args.to)
           (get_or_read_under c.args.self.now.pairs.items c.args.placed.now.watch.number _ _ unwatched c.index_mut.ensures.value inside refl);
     }

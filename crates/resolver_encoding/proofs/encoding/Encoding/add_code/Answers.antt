@@ -13,7 +13,6 @@ loop-index-init g c = record {
   step = IsStep-same (g.D.Interner.universe c.args.provider.now) (coding_for c.args.name c.args.number c.args.solvable) (λ root. ⊤) (notes_in c.args.self.now);
   code = λ i below. absurd (omega (arith, below));
   groups = refl;
-  seen = refl;
   requirements = refl;
 }
 
@@ -32,9 +31,8 @@ loop-index-preserved g c =
     record {
       room = KeepsRoom-trans _ _ _ before.room c.add.ensures.room;
       step = IsStep-trans u (coding_for n k s) (λ root. ⊤) _ _ _ before.step step;
-      code = more_digits old.kinds new.kinds n k s c.loop-index.index c.has_digit-value.result step.kinds before.code c.has_digit-value.ensures
+      code = more_digits old.kinds new.kinds n k s c.loop-index.index c.has_digit-value.result step.growth.kinds before.code c.has_digit-value.ensures
           (clause_listed u old new _ adds);
       groups = ap (λ x. x.groups) adds.is ∙ before.groups;
-      seen = ap (λ x. x.seen) adds.is ∙ before.seen;
       requirements = ap (λ x. x.requirements) adds.is ∙ before.requirements;
     }

@@ -12,6 +12,5 @@ invariant-loop-index g l = record {
   step : IsStepWhile (g.D.Interner.universe l.provider) (coding_for l.name l.number l.solvable) (λ root. ⊤) (notes_in l.fn.self) (notes_in l.self);
   code : (i : ℕ) → i < l.index → Contains (notes_in l.self).kinds (HasBit l.name l.solvable i (bit l.number i));
   groups : (notes_in l.self).groups ≡ (notes_in l.fn.self).groups;
-  seen : (notes_in l.self).seen ≡ (notes_in l.fn.self).seen;
   requirements : (notes_in l.self).requirements ≡ (notes_in l.fn.self).requirements;
 }

@@ -14,7 +14,7 @@ use Rattle.resolver_encoding.proofs.encoding.Encoding.ask.Goals as goal
 pub append-requires-clause-absent : goal.append-requires-clause-absent
 append-requires-clause-absent g c =
     let Has : List g.row.N.Denot → Type 0 = λ list. Contains list c.args.name in
-    λ h. c.if-is_among.ensures (subst Has (c.in_ok-exclude_each.ensures.asked ∙ c.in_ok-lock_out_others.ensures.asked) h)
+    λ h. c.if-is_among.ensures (subst Has (c.in_ok-exclude_each.ensures.step.asked ∙ c.in_ok-lock_out_others.ensures.step.asked) h)
 
 pub returns-clause-step : goal.returns-clause-step
 returns-clause-step g c =
@@ -25,13 +25,13 @@ returns-clause-step g c =
     let AllFree : List g.row.S.Denot → Type 0 = λ xs. All (λ e. (Contains xs e.0 → ⊥) → Contains mid.kinds (Excluded e.0 e.1)) c.deref-2.result.now in
     IsStep-asked u (notes_in c.args.self.now) mid _ n
     (IsStep-trans u (asking_for n) (λ root. ⊤) _ _ _ c.in_ok-lock_out_others.ensures.step c.in_ok-exclude_each.ensures.step)
-    (c.in_ok-exclude_each.ensures.asked ∙ c.in_ok-lock_out_others.ensures.asked)
+    (c.in_ok-exclude_each.ensures.step.asked ∙ c.in_ok-lock_out_others.ensures.step.asked)
     (λ i. record mid { asked = c.in_ok-append.ensures.keys i })
     (IsPackageRead-found u (notes_in c.lock_out_others.new.self).kinds mid.kinds
-    (notes_in c.args.self.now).exempt mid.exempt c.in_ok-exclude_each.ensures.step.kinds
-    (c.in_ok-exclude_each.ensures.step.exempt ∙ c.in_ok-lock_out_others.ensures.step.exempt) (u.package_named n) _ _ _
+    (notes_in c.args.self.now).exempt mid.exempt c.in_ok-exclude_each.ensures.step.growth.kinds
+    (c.in_ok-exclude_each.ensures.step.growth.exempt ∙ c.in_ok-lock_out_others.ensures.step.growth.exempt) (u.package_named n) _ _ _
     (c.deref.ensures.value ∙ ap (λ p. p.listed) answer) (ap (λ p. p.locked) answer) (c.deref-2.ensures.value ∙ ap (λ p. p.excluded) answer)
-    c.in_ok-lock_out_others.ensures.read (subst AllFree (sym c.in_ok-exclude_each.ensures.step.exempt) c.in_ok-exclude_each.ensures.read))
+    c.in_ok-lock_out_others.ensures.read (subst AllFree (sym c.in_ok-exclude_each.ensures.step.growth.exempt) c.in_ok-exclude_each.ensures.read))
 
 pub returns-clause-asked : goal.returns-clause-asked
 returns-clause-asked g c =

@@ -31,7 +31,7 @@ loop-version_set-preserved g c =
           ⊤) (λ root _. tt) _ _ c.in_ok-ask.ensures.step);
       asked = All-grown_at (λ v. Contains c.loop-version_set.self.asked.keys (u.version_set_name v)) (λ v.
           Contains c.ask.new.self.asked.keys (u.version_set_name v)) c.args.named.now c.loop-version_set.version_set-index _ (λ y h.
-          c.in_ok-ask.ensures.step.asked _ h) (omega arith) before.asked (rw c.version_set_name.ensures at c.in_ok-ask.ensures.asked);
+          c.in_ok-ask.ensures.step.growth.asked _ h) (omega arith) before.asked (rw c.version_set_name.ensures at c.in_ok-ask.ensures.asked);
       is_true = c.ask.ensures.is_true;
     }
 

@@ -1,7 +1,6 @@
-use Rattle.std.proofs.Common.{arith, Contains}
+use Rattle.std.proofs.Common.{arith}
 use Rattle.std.specs.Prelude.{⊤}
-use Rattle.resolver_clause_store.specs.declared.ConditionalRequirement.{ConditionalRequirement}
-use Rattle.resolver_encoding.specs.Called.{Call, IsPlainlyNamed}
+use Rattle.resolver_encoding.specs.Called.{IsPlainlyNamed, IsPlainlyNamedByEach}
 use Rattle.resolver_encoding.specs.Notes.{notes_in}
 use Rattle.resolver_encoding.proofs.EncodingLemmas.{IsAskStep-same, IsAskStep-trans, IsAskStep-weaker}
 use Rattle.resolver_encoding.proofs.RequirementLemmas.{plainly_here}
@@ -13,8 +12,7 @@ loop-requirement-init g c =
     let u = g.D.Interner.universe c.args.provider.now in
     record {
       room = KeepsRoom-same _;
-      step = IsAskStep-same u (λ n. (r : ConditionalRequirement) × Contains c.args.requirements.now r × IsPlainlyNamed u r n) (λ root. ⊤)
-          (notes_in c.args.self.now);
+      step = IsAskStep-same u (IsPlainlyNamedByEach u c.args.requirements.now) (λ root. ⊤) (notes_in c.args.self.now);
       is_true = c.requires.is_true;
     }
 
@@ -24,7 +22,7 @@ loop-requirement-preserved g c =
     let xs = c.args.requirements.now in
     let i = c.loop-requirement.requirement-index in
     let before = c.loop-requirement.invariant in
-    let Called : Call g.row.N.Denot g.row.S.Denot → Type 0 = λ n. (r : ConditionalRequirement) × Contains xs r × IsPlainlyNamed u r n in
+    let Called = IsPlainlyNamedByEach u xs in
     record {
       room = KeepsRoom-trans _ _ _ before.room c.ask_plain.ensures.room;
       step = IsAskStep-trans u Called (λ root. ⊤) _ _ _ before.step

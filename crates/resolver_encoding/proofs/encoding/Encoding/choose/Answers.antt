@@ -22,7 +22,7 @@ returns g c =
           ⊤) (λ root. ⊤) (λ root _. tt) _ _ c.in_ok-see_all.ensures.step);
       asked = let u = g.D.Interner.universe c.args.provider.now in
           All-weaker (λ v. Contains (notes_in c.ask_named.new.self).asked (u.version_set_name v)) (λ v.
-          Contains (notes_in c.see_all.new.self).asked (u.version_set_name v)) (λ v h. c.in_ok-see_all.ensures.step.asked (u.version_set_name v) h)
+          Contains (notes_in c.see_all.new.self).asked (u.version_set_name v)) (λ v h. c.in_ok-see_all.ensures.step.growth.asked (u.version_set_name v) h)
           (version_sets u c.args.requirement) c.in_ok-ask_named.ensures.asked;
       seen = let AllSeen : List g.row.S.Denot → Type 0 = λ list. All (Contains (notes_in c.see_all.new.self).seen) list in
           subst AllSeen c.deref.ensures.value c.in_ok-see_all.ensures.seen;

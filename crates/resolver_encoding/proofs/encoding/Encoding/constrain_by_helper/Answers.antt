@@ -20,4 +20,4 @@ returns-clause-read g c =
     let later = IsStep-trans u idle Premise _ _ _ c.in_ok-forbid_helper.ensures.step last in
     let step = IsStep-trans u idle Premise _ _ _ (IsStep-weaker u idle (λ root. ⊤) Premise (λ root asks. tt) _ _ c.in_ok-make_helper.ensures.step) later in
     constraint_read u (notes_in c.args.self.now) (notes_in c.forbid_itself.new.self) c.args.by c.args.version_set c.requires.encoding step
-    (later.constrained _ c.in_ok-make_helper.ensures.constrained) (last.kinds _ c.in_ok-forbid_helper.ensures.forbidden)
+    (later.constrained _ c.in_ok-make_helper.ensures.constrained) (last.growth.kinds _ c.in_ok-forbid_helper.ensures.forbidden)

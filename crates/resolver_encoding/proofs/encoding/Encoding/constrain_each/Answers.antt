@@ -36,7 +36,7 @@ loop-candidate-preserved g c =
       read = All-grown (IsForbidden (notes_in c.loop-candidate.self).kinds c.args.by c.args.version_set)
           (IsForbidden (notes_in c.constrain.new.self).kinds c.args.by c.args.version_set) c.args.forbidden.now c.loop-candidate.candidate-index
           c.candidate-item.result
-          (λ y h. IsForbidden-within _ _ step.kinds c.args.by c.args.version_set y h) (omega arith) c.candidate-item.is before.read
+          (λ y h. IsForbidden-within _ _ step.growth.kinds c.args.by c.args.version_set y h) (omega arith) c.candidate-item.is before.read
           (forbidden_direct c.in_ok-constrain.ensures.forbidden);
     }
 

@@ -6,7 +6,7 @@ use Rattle.resolver_clause_store.specs.Candidates.{version_sets}
 use Rattle.resolver_clause_store.specs.declared.VersionSetId.{VersionSetId}
 use Rattle.resolver_clause_store.specs.declared.ClauseKind.TheVariants.{Requires}
 use Rattle.resolver_encoding.specs.Encodings.{AddsKind, IsTrueUnder, idle}
-use Rattle.resolver_encoding.specs.Notes.{notes_in}
+use Rattle.resolver_encoding.specs.Notes.{entry_of, notes_in}
 use Rattle.resolver_encoding.proofs.EncodingLemmas.{IsStep-trans, IsStep-weaker, clause_listed}
 use Rattle.resolver_encoding.proofs.NoteLemmas.{IsStep-kind}
 use Rattle.resolver_encoding.proofs.encoding.Encoding.encode_choices.Goals as goal
@@ -14,13 +14,13 @@ use Rattle.resolver_encoding.proofs.encoding.Encoding.encode_choices.Goals as go
 pub returns-clause-step : goal.returns-clause-step
 returns-clause-step g c =
     let u = g.D.Interner.universe c.args.provider.now in
-    let r = c.args.requirement in
-    let by = c.args.by in
-    let list = c.args.disjunct.items in
-    let Premise = IsTrueUnder u by list r in
+    let r = c.args.entry.requirement in
+    let by = c.args.entry.by in
+    let list = c.args.entry.disjunct.items in
+    let Premise = IsTrueUnder u (entry_of c.args.entry) in
     let mid = notes_in c.help_each.new.self in
     let Adds : List VersionSetId → Type 0 = λ d. AddsKind u (Requires by d r) mid (notes_in c.add_with.new.self) in
-    let adds = subst Adds c.new.ensures (c.in_ok-add_with.ensures.added u c.requires.candidates) in
+    let adds = subst Adds c.in_ok-new.ensures (c.in_ok-add_with.ensures.added u c.requires.candidates) in
     let grown = c.in_ok-help_each.ensures.step in
     let AllHelped : List VersionSetId → Type 0 = λ list. All (Contains mid.helped) list in
     let helped = subst AllHelped c.deref.ensures.value c.in_ok-help_each.ensures.helped in
@@ -39,8 +39,8 @@ returns-clause-step g c =
 pub returns-clause-read : goal.returns-clause-read
 returns-clause-read g c =
     let u = g.D.Interner.universe c.args.provider.now in
-    let Listed : List VersionSetId → Type 0 = λ d. Contains (notes_in c.add_with.new.self).kinds (Requires c.args.by d c.args.requirement) in
-    subst Listed c.new.ensures
+    let Listed : List VersionSetId → Type 0 = λ d. Contains (notes_in c.add_with.new.self).kinds (Requires c.args.entry.by d c.args.entry.requirement) in
+    subst Listed c.in_ok-new.ensures
     (clause_listed u (notes_in c.help_each.new.self) (notes_in c.add_with.new.self) _ (c.in_ok-add_with.ensures.added u c.requires.candidates))
 
 pub returns-clause-room : goal.returns-clause-room

@@ -3,6 +3,7 @@ use Rattle.std.specs.Prelude.{⊤}
 use Rattle.resolver_encoding.proofs.RoomLemmas.{KeepsRoom-trans}
 use Rattle.resolver_encoding.specs.Called.{IsWantedBy}
 use Rattle.resolver_encoding.specs.Encodings.{IsTrueUnder}
+use Rattle.resolver_encoding.specs.Notes.{entry_of}
 use Rattle.resolver_encoding.specs.ReadState.{has_direct}
 use Rattle.resolver_encoding.proofs.EncodingLemmas.{IsAskStep-of, IsAskStep-trans, IsAskStep-weaker}
 use Rattle.resolver_encoding.proofs.encoding.Encoding.encode_disjunct.Goals as goal
@@ -10,13 +11,14 @@ use Rattle.resolver_encoding.proofs.encoding.Encoding.encode_disjunct.Goals as g
 pub returns-clause-step : goal.returns-clause-step
 returns-clause-step g c =
     let u = g.D.Interner.universe c.args.provider.now in
-    let Called = IsWantedBy u c.args.requirement in
-    let Premise = IsTrueUnder u c.args.by c.args.disjunct.items c.args.requirement in
+    let e = entry_of c.args.entry in
+    let Called = IsWantedBy u e.requirement in
+    let Premise = IsTrueUnder u e in
     IsAskStep-trans u Called Premise _ _ _ (IsAskStep-weaker u Called Called (λ n h. h) (λ root. ⊤) Premise (λ root _. tt) _ _ c.in_ok-choices.ensures.step)
     (IsAskStep-of u Called Premise _ _ c.in_ok-encode_choices.ensures.step)
 
 pub returns-clause-read : goal.returns-clause-read
-returns-clause-read g c = has_direct c.args.disjunct.items refl c.in_ok-encode_choices.ensures.read
+returns-clause-read g c = has_direct c.args.entry.disjunct.items refl c.in_ok-encode_choices.ensures.read
 
 pub returns-clause-room : goal.returns-clause-room
 returns-clause-room g c =

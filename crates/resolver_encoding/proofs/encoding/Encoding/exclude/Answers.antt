@@ -1,4 +1,4 @@
-use Rattle.std.proofs.Common.{◌++◌, inl, ap, refl, subst, sym, Contains}
+use Rattle.std.proofs.Common.{◌++◌, inl, refl, subst, sym, Contains}
 use Rattle.std.specs.Prelude.{⊤}
 use Rattle.resolver_clause_store.specs.declared.ClauseKind.TheVariants.{Excluded}
 use Rattle.resolver_encoding.specs.Notes.{notes_in}
@@ -25,6 +25,3 @@ pub returns-clause-plain : goal.returns-clause-plain
 returns-clause-plain g c =
     let u = g.D.Interner.universe c.args.provider.now in
     AddsPlainly-clause u (notes_in c.args.self.now) _ (Excluded c.args.solvable c.args.reason) (λ numbers. refl) (c.in_ok-add.ensures.added u refl)
-
-pub returns-clause-asked : goal.returns-clause-asked
-returns-clause-asked g c = ap (λ n. n.asked) (c.in_ok-add.ensures.added (g.D.Interner.universe c.args.provider.now) refl).is

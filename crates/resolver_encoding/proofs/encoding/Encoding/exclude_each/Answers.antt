@@ -1,4 +1,4 @@
-use Rattle.std.proofs.Common.{◌≡◌, ◌∙◌, refl, subst, arith, Contains, List}
+use Rattle.std.proofs.Common.{◌≡◌, subst, arith, Contains, List}
 use Rattle.std.specs.Prelude.{⊤}
 use Rattle.std.proofs.lemmas.List.Elements.{All-contains, All-nil}
 use Rattle.resolver_clause_store.specs.declared.ClauseKind.TheVariants.{Excluded}
@@ -18,7 +18,6 @@ loop-solvable-init g c = record {
   step = IsStep-same (g.D.Interner.universe c.args.provider.now) (asking_for c.args.name) (λ root. ⊤) (notes_in c.args.self.now);
   read = All-nil (λ e. (Contains (notes_in c.args.self.now).exempt e.0 → ⊥) → Contains (notes_in c.args.self.now).kinds (Excluded e.0 e.1));
   plain = AddsPlainly-same (g.D.Interner.universe c.args.provider.now) (notes_in c.args.self.now);
-  asked = refl;
 }
 
 pub exclude-requires-clause-named : goal.exclude-requires-clause-named
@@ -49,10 +48,9 @@ loop-solvable-preserved g c =
       read = All-grown (λ e. (Contains (notes_in c.args.self.now).exempt e.0 → ⊥) → Contains (notes_in c.loop-solvable.self).kinds (Excluded e.0 e.1)) (λ e.
           (Contains (notes_in c.args.self.now).exempt e.0 → ⊥) →
           Contains (notes_in c.exclude.new.self).kinds
-          (Excluded e.0 e.1)) c.args.excluded.now c.loop-solvable.solvable-index c.loop-solvable-item.result (λ y h free. step.kinds _ (h free))
-          (omega arith) c.loop-solvable-item.is before.read (subst Free before.step.exempt c.in_ok-exclude.ensures.forbidden);
+          (Excluded e.0 e.1)) c.args.excluded.now c.loop-solvable.solvable-index c.loop-solvable-item.result (λ y h free. step.growth.kinds _ (h free))
+          (omega arith) c.loop-solvable-item.is before.read (subst Free before.step.growth.exempt c.in_ok-exclude.ensures.forbidden);
       plain = AddsPlainly-trans u _ _ _ before.plain c.in_ok-exclude.ensures.plain;
-      asked = c.in_ok-exclude.ensures.asked ∙ before.asked;
     }
 
 pub returns-clause-read : goal.returns-clause-read

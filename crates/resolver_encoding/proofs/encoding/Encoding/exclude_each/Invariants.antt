@@ -1,4 +1,4 @@
-use Rattle.std.proofs.Common.{◌≡◌, All, Contains, take}
+use Rattle.std.proofs.Common.{All, Contains, take}
 use Rattle.std.specs.Prelude.{⊤}
 use Rattle.resolver_clause_store.specs.declared.ClauseKind.TheVariants.{Excluded}
 use Rattle.resolver_encoding.specs.Encodings.{IsStepWhile, asking_for}
@@ -12,5 +12,4 @@ invariant-loop-solvable g l = record {
   step : IsStepWhile (g.D.Interner.universe l.provider) (asking_for l.name) (λ root. ⊤) (notes_in l.fn.self) (notes_in l.self);
   read : All (λ e. (Contains (notes_in l.fn.self).exempt e.0 → ⊥) → Contains (notes_in l.self).kinds (Excluded e.0 e.1)) (take l.solvable-index l.excluded);
   plain : AddsPlainly (notes_in l.fn.self) (notes_in l.self);
-  asked : (notes_in l.self).asked ≡ (notes_in l.fn.self).asked;
 }

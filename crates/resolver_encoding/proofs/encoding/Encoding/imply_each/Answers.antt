@@ -43,7 +43,7 @@ loop-candidate-preserved g c =
       step = IsStep-trans u idle (λ root. ⊤) _ _ _ before.step step;
       follow = All-grown (λ t. Contains (notes_in c.loop-candidate.self).kinds (AnyOf (ConditionHelper v) t)) (λ t.
           Contains (notes_in c.add.new.self).kinds (AnyOf (ConditionHelper v) t)) c.args.candidates.now c.loop-candidate.candidate-index s (λ y h.
-          step.kinds _ h) (omega arith) c.candidate-item.is before.follow
+          step.growth.kinds _ h) (omega arith) c.candidate-item.is before.follow
           (clause_listed u (notes_in c.loop-candidate.self) (notes_in c.add.new.self) _ adds);
       helped = ap (λ n. n.helped) adds.is ∙ before.helped;
     }

@@ -36,7 +36,7 @@ loop-candidate-preserved g c =
       step = IsStep-trans u idle (λ root. ⊤) _ _ _ before.step step;
       excluded = All-grown (λ t. Contains (notes_in c.loop-candidate.self).kinds (ConstrainsExcluded t v)) (λ t.
           Contains (notes_in c.add.new.self).kinds (ConstrainsExcluded t v)) c.args.forbidden.now c.loop-candidate.candidate-index s (λ y h.
-          step.kinds _ h) (omega arith) c.candidate-item.is before.excluded
+          step.growth.kinds _ h) (omega arith) c.candidate-item.is before.excluded
           (clause_listed u (notes_in c.loop-candidate.self) (notes_in c.add.new.self) _ adds);
       constrained = ap (λ n. n.constrained) adds.is ∙ before.constrained;
     }

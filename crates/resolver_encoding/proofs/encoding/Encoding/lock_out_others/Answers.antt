@@ -1,4 +1,4 @@
-use Rattle.std.proofs.Common.{◌≡◌, ◌∙◌, refl, sym, subst, arith, Contains, List}
+use Rattle.std.proofs.Common.{◌≡◌, ◌∙◌, sym, subst, arith, Contains, List}
 use Rattle.std.specs.Prelude.{⊤}
 use Rattle.std.proofs.lemmas.List.Elements.{All-nil}
 use Rattle.resolver_clause_store.specs.declared.ClauseKind.TheVariants.{Lock}
@@ -19,7 +19,6 @@ loop-candidate-init g c = record {
   forbidden = All-nil (λ s. (s ≡ c.in-Some.locked → ⊥) → (Contains (notes_in c.args.self.now).exempt s → ⊥) →
       Contains (notes_in c.args.self.now).kinds (Lock c.in-Some.locked s));
   plain = AddsPlainly-same (g.D.Interner.universe c.args.provider.now) (notes_in c.args.self.now);
-  asked = refl;
 }
 
 pub lock_out-requires-clause-named : goal.lock_out-requires-clause-named
@@ -51,10 +50,9 @@ loop-candidate-preserved g c =
           Contains (notes_in c.loop-candidate.self).kinds (Lock t s)) (λ s.
           (s ≡ t → ⊥) → (Contains (notes_in c.args.self.now).exempt s → ⊥) →
           Contains (notes_in c.lock_out.new.self).kinds
-          (Lock t s)) c.args.listed.now c.loop-candidate.candidate-index c.candidate-item.result (λ y h apart free. step.kinds _ (h apart free))
-          (omega arith) c.candidate-item.is before.forbidden (subst Free before.step.exempt c.in_ok-lock_out.ensures.forbidden);
+          (Lock t s)) c.args.listed.now c.loop-candidate.candidate-index c.candidate-item.result (λ y h apart free. step.growth.kinds _ (h apart free))
+          (omega arith) c.candidate-item.is before.forbidden (subst Free before.step.growth.exempt c.in_ok-lock_out.ensures.forbidden);
       plain = AddsPlainly-trans u _ _ _ before.plain c.in_ok-lock_out.ensures.plain;
-      asked = c.in_ok-lock_out.ensures.asked ∙ before.asked;
     }
 
 pub returns-clause-read : goal.returns-clause-read

@@ -13,5 +13,4 @@ invariant-loop-candidate g l = record {
   forbidden : All (λ s. (s ≡ l.locked → ⊥) → (Contains (notes_in l.fn.self).exempt s → ⊥) → Contains (notes_in l.self).kinds (Lock l.locked s))
       (take l.candidate-index l.listed);
   plain : AddsPlainly (notes_in l.fn.self) (notes_in l.self);
-  asked : (notes_in l.self).asked ≡ (notes_in l.fn.self).asked;
 }

@@ -32,7 +32,7 @@ read_candidate-requires-clause-seen g c =
     let s = c.candidate-item.result in
     let Among : List g.row.S.Denot → Type 0 = λ list. Contains list s in
     let inside : Contains c.args.candidates.now s = (c.loop-candidate.candidate-index, omega arith, sym c.candidate-item.is) in
-    Extends-within first.seen (notes_in c.loop-candidate.self).seen c.loop-candidate.invariant.reading.reading.seen s
+    Extends-within first.seen (notes_in c.loop-candidate.self).seen c.loop-candidate.invariant.reading.reading.growth.seen s
     (candidates_seen u half.root first half.half.encoding c.args.place s (subst Among c.requires.listed inside))
 
 pub loop-candidate-preserved : goal.loop-candidate-preserved
@@ -50,11 +50,11 @@ loop-candidate-preserved g c =
     let Among : List g.row.S.Denot → Type 0 = λ list. Contains list s in
     let inside : Contains c.args.candidates.now s = (c.loop-candidate.candidate-index, omega arith, sym c.candidate-item.is) in
     let listed = subst Among c.requires.listed inside in
-    let seen = Extends-within one.seen two.seen first.seen s (candidates_seen u half.root one half.half.encoding c.args.place s listed) in
+    let seen = Extends-within one.seen two.seen first.growth.seen s (candidates_seen u half.root one half.half.encoding c.args.place s listed) in
     let now = hinted_one u set half.root c.args.place s one two three half.half c.requires.within listed
-    (Keeps-trans one.origins two.origins three.origins first.origins reading.origins)
-    (Extends-trans one.table two.table three.table first.table reading.table)
-    (Extends-trans one.requirements two.requirements three.requirements first.requirements reading.requirements) seen reading in
+    (Keeps-trans one.origins two.origins three.origins first.growth.origins reading.growth.origins)
+    (Extends-trans one.table two.table three.table first.growth.table reading.growth.table)
+    (Extends-trans one.requirements two.requirements three.requirements first.growth.requirements reading.growth.requirements) seen reading in
     record {
       room = KeepsRoom-trans _ _ _ before.room c.read_candidate.ensures.room;
       half = record { root = before.half.root; half = reading.keeps before.half.root before.half.half };
@@ -74,7 +74,7 @@ returns-clause-here g c =
     let one = notes_in c.args.self.now in
     let new = notes_in c.loop-candidate.self in
     let reading = c.loop-candidate.invariant.reading.reading in
-    let same = candidates_same u half.root one new half.half.encoding reading.origins reading.table reading.requirements c.args.place c.requires.within in
+    let same = candidates_same u half.root one new half.half.encoding reading.growth.origins reading.growth.table reading.growth.requirements c.args.place c.requires.within in
     let Done : List g.row.S.Denot → Type 0 = λ list. AreReadIfHinted u new list in
     subst Done (c.requires.listed ∙ sym same)
     (All-done (λ t. IsHinted u t → Contains new.read t) c.args.candidates.now c.loop-candidate.candidate-index

@@ -31,8 +31,8 @@ pub read_hinted-requires-clause-within : goal.read_hinted-requires-clause-within
 read_hinted-requires-clause-within g c = let old = notes_in c.args.self.now in
     let mid = notes_in c.read_each.new.self in
     let fired = notes_in c.fire_deferred.new.self in
-    let first : length old.requirements ≤ length mid.requirements = longer old.requirements mid.requirements c.in_ok-read.ensures.reading.requirements in
-    let second : length mid.requirements ≤ length fired.requirements = longer mid.requirements fired.requirements c.in_ok-fired.ensures.firing.requirements in
+    let first : length old.requirements ≤ length mid.requirements = longer old.requirements mid.requirements c.in_ok-read.ensures.reading.growth.requirements in
+    let second : length mid.requirements ≤ length fired.requirements = longer mid.requirements fired.requirements c.in_ok-fired.ensures.firing.growth.requirements in
     let size : c.requirement_count-clauses.result ≡ length old.requirements = c.requirement_count-clauses.ensures in
     omega (arith, first, second, size)
 

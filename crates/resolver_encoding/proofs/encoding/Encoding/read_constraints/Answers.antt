@@ -50,10 +50,10 @@ loop-version_set-preserved g c =
           All-get_or (λ v. HasConstraint u c.args.by v root) xs i _ below all) _ _ step);
       read = All-grown_at (IsConstraintRead u (notes_in c.loop-version_set.self).kinds c.args.by)
           (IsConstraintRead u (notes_in c.read_constraint.new.self).kinds c.args.by) xs i _ (λ v h.
-          IsConstraintRead-within u _ _ step.kinds c.args.by v h) below before.read c.in_ok-read_constraint.ensures.read;
+          IsConstraintRead-within u _ _ step.growth.kinds c.args.by v h) below before.read c.in_ok-read_constraint.ensures.read;
       asked = All-grown_at (λ v. Contains (notes_in c.loop-version_set.self).asked (u.version_set_name v)) (λ v.
           Contains (notes_in c.read_constraint.new.self).asked (u.version_set_name v)) xs i _ (λ v h.
-          step.asked _ h) below before.asked c.in_ok-read_constraint.ensures.asked;
+          step.growth.asked _ h) below before.asked c.in_ok-read_constraint.ensures.asked;
       is_true = c.read_constraint.ensures.is_true;
     }
 

@@ -31,7 +31,7 @@ read_new-requires-clause-known g c = let old = notes_in c.args.self.now in
     let s = c.index-as_slice-place.result in
     let At : List g.row.S.Denot → Type 0 = λ list. s ≡ get_or list c.loop-place.place s in
     let inside : Contains set s = (c.loop-place.place, omega arith, sym (subst At c.as_slice.ensures.keys c.index-as_slice-place.is)) in
-    Contains-kept old.origins (notes_in c.loop-place.self).origins c.loop-place.invariant.reading.origins (Solvable s)
+    Contains-kept old.origins (notes_in c.loop-place.self).origins c.loop-place.invariant.reading.growth.origins (Solvable s)
     (All-contains (λ t. Contains old.origins (Solvable t)) set s c.requires.known inside)
 
 pub loop-place-preserved : goal.loop-place-preserved

@@ -35,7 +35,7 @@ waves-preserved g c =
     let Was : Bool → Type 0 = λ b. HasRead two three b in
     let size : c.requirement_count-until.result ≡ length two.requirements = c.requirement_count-until.ensures in
     let now : HasRead two three true = subst Was c.if-not-branch.false found.any_new in
-    let more : length two.requirements ≤ length three.requirements = longer two.requirements three.requirements reading.requirements in
+    let more : length two.requirements ≤ length three.requirements = longer two.requirements three.requirements reading.growth.requirements in
     record {
       room = KeepsRoom-trans _ _ _ before.room c.read_hinted_each.ensures.room;
       half = record { root = before.half.root; half = reading.keeps before.half.root before.half.half };
@@ -44,7 +44,7 @@ waves-preserved g c =
       forward = omega (arith, before.forward, before.within, size);
       within = omega (arith, size, more);
       read = hints_joined u c.args.from c.waves.place c.requirement_count-until.result three
-          (hints_grown u before.half.root two three before.half.half.encoding reading.origins reading.table reading.requirements reading.read c.args.from
+          (hints_grown u before.half.root two three before.half.half.encoding reading.growth.origins reading.growth.table reading.growth.requirements reading.read c.args.from
           c.waves.place before.within before.read)
           found.here;
       any_new = HasRead-then one two three c.waves.any before.any_new now;
@@ -75,7 +75,7 @@ returns-then-not-branch-clause-here g c =
     ap (λ (n : Notes g.row.N.Denot g.row.S.Denot). length n.requirements) (sym same) in
     let To : ℕ → Type 0 = λ n. AreHintsReadTo u c.args.from n three in
     subst To end (hints_joined u c.args.from c.waves.place c.requirement_count-until.result three
-    (hints_grown u before.half.root two three before.half.half.encoding reading.origins reading.table reading.requirements reading.read c.args.from
+    (hints_grown u before.half.root two three before.half.half.encoding reading.growth.origins reading.growth.table reading.growth.requirements reading.read c.args.from
     c.waves.place before.within before.read)
     found.here)
 

@@ -3,7 +3,7 @@ use Rattle.std.proofs.Common.{ap, refl}
 use Rattle.resolver_clause_store.specs.Candidates.{matching}
 use Rattle.resolver_clause_store.specs.declared.By.TheVariants.{Solvable as BySolvable}
 use Rattle.resolver_encoding.specs.Called.{IsWantedBy}
-use Rattle.resolver_encoding.specs.Encodings.{HasRequirement, IsTrueUnder, idle}
+use Rattle.resolver_encoding.specs.Encodings.{HasPlainRequirement, IsTrueUnder, idle}
 use Rattle.resolver_encoding.specs.Notes.{notes_in}
 use Rattle.resolver_encoding.specs.ReadState.{has_direct}
 use Rattle.resolver_encoding.proofs.EncodingLemmas.{IsAskStep-of, IsAskStep-trans, IsAskStep-weaker, IsEncodingOf-asked, IsEncodingOf-step, IsStep-weaker}
@@ -15,10 +15,10 @@ pub returns-then-is_among : goal.returns-then-is_among
 returns-then-is_among g c =
     record {
       step = let u = g.D.Interner.universe c.args.provider.now in
-          let Premise = HasRequirement u (BySolvable c.args.requirer) (record { condition = None; requirement = c.args.requirement }) in
+          let Premise = HasPlainRequirement u c.args.requirer c.args.requirement in
           IsAskStep-of u (IsWantedBy u c.args.requirement) Premise _ _ c.in_ok-imply_gate.ensures.step;
       read = let u = g.D.Interner.universe c.args.provider.now in
-          let Premise = HasRequirement u (BySolvable c.args.requirer) (record { condition = None; requirement = c.args.requirement }) in
+          let Premise = HasPlainRequirement u c.args.requirer c.args.requirement in
           let step = c.in_ok-imply_gate.ensures.step in
           gate_read u Premise (notes_in c.args.self.now) (notes_in c.imply_gate.new.self) c.args.requirer c.args.requirement c.requires.encoding step
           (step.gates _ c.if-is_among.ensures) c.in_ok-imply_gate.ensures.implied;
@@ -34,11 +34,11 @@ returns-then-len-lt-GATE_THRESHOLD g c =
           let r = c.args.requirement in
           let by = BySolvable c.args.requirer in
           let Called = IsWantedBy u r in
-          let Premise = HasRequirement u by (record { condition = None; requirement = r }) in
+          let Premise = HasPlainRequirement u c.args.requirer r in
           IsAskStep-trans u Called Premise _ _ _ (IsAskStep-weaker u Called Called (λ n h. h) (λ root. ⊤) Premise (λ root asks. tt) _ _
           c.in_ok-choices.ensures.step)
           (IsAskStep-of u Called Premise _ _
-          (IsStep-weaker u idle (IsTrueUnder u by _ r) Premise (λ root asks.
+          (IsStep-weaker u idle (IsTrueUnder u (record { by = by; disjunct = _; requirement = r })) Premise (λ root asks.
           (record { condition = None; requirement = r }, asks, refl, ap (map (matching u)) c.new-none.ensures.items)) _ _ c.in_ok-encode_choices.ensures.step));
       read = has_direct _ c.new-none.ensures.items c.in_ok-encode_choices.ensures.read;
       room = (let it = KeepsRoom-trans _ _ _ c.choose.ensures.room c.encode_choices.ensures.room in
@@ -53,7 +53,7 @@ returns g c =
       step = let u = g.D.Interner.universe c.args.provider.now in
           let r = c.args.requirement in
           let Called = IsWantedBy u r in
-          let Premise = HasRequirement u (BySolvable c.args.requirer) (record { condition = None; requirement = r }) in
+          let Premise = HasPlainRequirement u c.args.requirer r in
           let made = IsAskStep-trans u Called (λ root. ⊤) _ _ _ c.in_ok-choices.ensures.step (IsAskStep-of u Called (λ root. ⊤) _ _
           c.in_ok-make_gate.ensures.step) in
           IsAskStep-trans u Called Premise _ _ _ (IsAskStep-weaker u Called Called (λ n h. h) (λ root. ⊤) Premise (λ root asks. tt) _ _ made)
@@ -61,7 +61,7 @@ returns g c =
       read = let u = g.D.Interner.universe c.args.provider.now in
           let r = c.args.requirement in
           let Called = IsWantedBy u r in
-          let Premise = HasRequirement u (BySolvable c.args.requirer) (record { condition = None; requirement = r }) in
+          let Premise = HasPlainRequirement u c.args.requirer r in
           let chosen = IsEncodingOf-asked u Called Premise _ _ c.requires.encoding
           (IsAskStep-weaker u Called Called (λ n h. h) (λ root. ⊤) Premise (λ root asks. tt) _ _ c.in_ok-choices.ensures.step) in
           let before = IsEncodingOf-step u Premise _ _ chosen (IsStep-weaker u idle (λ root. ⊤) Premise (λ root asks. tt) _ _ c.in_ok-make_gate.ensures.step) in

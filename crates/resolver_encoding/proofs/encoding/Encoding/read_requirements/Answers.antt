@@ -58,7 +58,7 @@ loop-requirement-preserved g c =
           (IsReadStep-weaker u (IsUnmet u set by) (IsCalledBy u set _) (IsCalledByEach u set xs) (λ n called. called_here u set xs i _ n below called)
           (HasRequirement u by _) Premise (λ root all. All-get_or (λ v. HasRequirement u by v root) xs i _ below all) _ _ step);
       read = All-grown_at (IsReadRequirement u mid.kinds (IsLeft mid) by) (IsReadRequirement u new.kinds (IsLeft new) by) xs i _ (λ v h.
-          IsReadRequirement-within u _ _ step.kinds (IsLeft mid) (IsLeft new) (λ e k.
+          IsReadRequirement-within u _ _ step.growth.kinds (IsLeft mid) (IsLeft new) (λ e k.
           Extends-within _ _ step.deferred _ k) by v h) below before.read c.in_ok-read_requirement.ensures.read;
       is_true = c.read_requirement.ensures.is_true;
     }

@@ -1,14 +1,12 @@
 use Rattle.std.proofs.Common.{◌≡◌, ◌∙◌, All, Contains, List, [], refl, subst, sym, ⊎_elim}
 use Rattle.std.proofs.lemmas.List.Elements.{All-nil}
-use Rattle.resolver_clause_store.specs.Universe.{Demands}
 use Rattle.resolver_clause_store.specs.declared.By.TheVariants.{Root}
-use Rattle.resolver_clause_store.specs.TrueRules.{demands_by}
 use Rattle.resolver_clause_store.specs.Near.{IsNear}
-use Rattle.resolver_encoding.specs.Called.{AreAsked, IsCalledFor, IsDemanded}
+use Rattle.resolver_encoding.specs.Called.{AreAsked, IsCalledFor}
 use Rattle.resolver_encoding.specs.SoFar.{IsReadingOf}
-use Rattle.resolver_encoding.specs.Encodings.{IsReadStep, IsUnmet}
 use Rattle.resolver_encoding.specs.Hints.{IsListedFrom}
 use Rattle.resolver_encoding.specs.Notes.{notes_in}
+use Rattle.resolver_encoding.specs.Steps.{IsDemandsStep, demands_with}
 use Rattle.resolver_encoding.proofs.HintLemmas.{asked_on, so_far_on}
 use Rattle.resolver_encoding.proofs.ReachLemmas.{root_near}
 use Rattle.resolver_encoding.proofs.SoFarLemmas.{root_asked, root_so_far}
@@ -17,15 +15,15 @@ use Rattle.resolver_encoding.proofs.RoomLemmas.{KeepsRoom-trans}
 use Rattle.resolver_encoding.proofs.encoding.Encoding.read_root.Goals as goal
 
 pub read_demands-requires-clause-encoding : goal.read_demands-requires-clause-encoding
-read_demands-requires-clause-encoding g c = let root : Demands = record { requirements = c.args.requirements.now; constraints = c.args.constraints.now } in
+read_demands-requires-clause-encoding g c = let root = demands_with c.args.requirements.now c.args.constraints.now in
     record { root = root; premise = refl; encoding = c.in_ok-install_root.ensures.installed root }
 
 pub read_hinted-requires-clause-half : goal.read_hinted-requires-clause-half
 read_hinted-requires-clause-half g c = let u = g.D.Interner.universe c.args.provider.now in
-    let root : Demands = record { requirements = c.args.requirements.now; constraints = c.args.constraints.now } in
+    let root = demands_with c.args.requirements.now c.args.constraints.now in
     let bare = notes_in c.install_root.new.self in
     let mid = notes_in c.read_demands.new.self in
-    let Step : List g.row.S.Denot → Type 0 = λ set. IsReadStep u (IsUnmet u set Root) (IsDemanded u set root) (λ r. demands_by u r Root ≡ root) bare mid in
+    let Step : List g.row.S.Denot → Type 0 = λ set. IsDemandsStep u set Root root bare mid in
     let step = subst Step c.new-none.ensures.empty c.in_ok-read_demands.ensures.step in
     let so = root_so_far u root bare mid step c.in_ok-install_root.ensures.nothing
     (c.in_ok-install_root.ensures.installed root) c.in_ok-read_demands.ensures.read in
@@ -35,12 +33,11 @@ pub returns : goal.returns
 returns g c =
     record {
       read = let u = g.D.Interner.universe c.args.provider.now in
-          let root : Demands = record { requirements = c.args.requirements.now; constraints = c.args.constraints.now } in
+          let root = demands_with c.args.requirements.now c.args.constraints.now in
           let bare = notes_in c.install_root.new.self in
           let mid = notes_in c.read_demands.new.self in
           let new = notes_in c.read_hinted.new.self in
-          let Step : List g.row.S.Denot → Type 0 = λ set. IsReadStep u (IsUnmet u set Root) (IsDemanded u set root)
-          (λ r. demands_by u r Root ≡ root) bare mid in
+          let Step : List g.row.S.Denot → Type 0 = λ set. IsDemandsStep u set Root root bare mid in
           let step = subst Step c.new-none.ensures.empty c.in_ok-read_demands.ensures.step in
           let Reading : List g.row.S.Denot → Type 0 = λ set. IsReadingOf u set (IsListedFrom new 0) mid new in
           let reading = subst Reading c.new-none.ensures.empty c.in_ok-read_hinted.ensures.reading.reading in
@@ -48,12 +45,11 @@ returns g c =
           (c.in_ok-install_root.ensures.installed root) c.in_ok-read_demands.ensures.read in
           so_far_on u [] root (IsListedFrom new 0) mid new so reading;
       asked = let u = g.D.Interner.universe c.args.provider.now in
-          let root : Demands = record { requirements = c.args.requirements.now; constraints = c.args.constraints.now } in
+          let root = demands_with c.args.requirements.now c.args.constraints.now in
           let bare = notes_in c.install_root.new.self in
           let mid = notes_in c.read_demands.new.self in
           let new = notes_in c.read_hinted.new.self in
-          let Step : List g.row.S.Denot → Type 0 = λ set. IsReadStep u (IsUnmet u set Root) (IsDemanded u set root)
-          (λ r. demands_by u r Root ≡ root) bare mid in
+          let Step : List g.row.S.Denot → Type 0 = λ set. IsDemandsStep u set Root root bare mid in
           let step = subst Step c.new-none.ensures.empty c.in_ok-read_demands.ensures.step in
           let Reading : List g.row.S.Denot → Type 0 = λ set. IsReadingOf u set (IsListedFrom new 0) mid new in
           let reading = subst Reading c.new-none.ensures.empty c.in_ok-read_hinted.ensures.reading.reading in
@@ -66,11 +62,10 @@ returns g c =
           asked_on u [] root (IsListedFrom new 0) [] mid new so reading (subst Asked (sym none) asked);
       near = λ seeds packages.
           let u = g.D.Interner.universe c.args.provider.now in
-          let root : Demands = record { requirements = c.args.requirements.now; constraints = c.args.constraints.now } in
+          let root = demands_with c.args.requirements.now c.args.constraints.now in
           let bare = notes_in c.install_root.new.self in
           let mid = notes_in c.read_demands.new.self in
-          let Step : List g.row.S.Denot → Type 0 = λ set. IsReadStep u (IsUnmet u set Root) (IsDemanded u set root)
-          (λ r. demands_by u r Root ≡ root) bare mid in
+          let Step : List g.row.S.Denot → Type 0 = λ set. IsDemandsStep u set Root root bare mid in
           let step = subst Step c.new-none.ensures.empty c.in_ok-read_demands.ensures.step in
           let AllNear : List g.row.S.Denot → Type 0 = λ set. All (IsNear u root seeds) set in
           c.in_ok-read_hinted.ensures.reading.near root seeds packages (root_near u root seeds packages bare mid step c.in_ok-install_root.ensures.nothing)
@@ -80,7 +75,7 @@ returns g c =
           let none = c.in_ok-read_demands.ensures.step.read ∙ c.in_ok-install_root.ensures.nothing.none_read in
           ⊎_elim (λ (was : Contains (notes_in c.read_demands.new.self).read s). absurd (none_in s (subst Has none was))) (λ listed. listed)
           (c.in_ok-read_hinted.ensures.reading.reading.reads s h);
-      exempt = c.in_ok-read_hinted.ensures.reading.reading.exempt ∙ c.in_ok-read_demands.ensures.step.exempt ∙ c.in_ok-install_root.ensures.exempt;
+      exempt = c.in_ok-read_hinted.ensures.reading.reading.growth.exempt ∙ c.in_ok-read_demands.ensures.step.growth.exempt ∙ c.in_ok-install_root.ensures.exempt;
       is_true = c.read_hinted.ensures.is_true;
       hinted = c.in_ok-read_hinted.ensures.here;
       limits = (let it = KeepsRoom-trans _ _ _ c.install_root.ensures.room (KeepsRoom-trans _ _ _ c.read_demands.ensures.room c.read_hinted.ensures.room) in

@@ -41,11 +41,11 @@ returns g c =
           (IsStep-seen u g.N.PartialEq.eq g.S.PartialEq.eq g.met.D.Interner.names_are_values g.met.D.Interner.solvables_are_values n k s _ mid _
           c.add.new.self list
           (sym c.solvable_name-name.ensures) c.requires.absent
-          step same_groups (code.seen ∙ begun.seen) (λ i. record mid { seen = c.in_ok-append.ensures.keys i; groups = c.add.new.self })
+          step same_groups step.seen (λ i. record mid { seen = c.in_ok-append.ensures.keys i; groups = c.add.new.self })
           c.in_ok-add.ensures.added
-          (place_in mid.origins _ (Solvable s) (step.origins.kept _ (Solvable s) c.in_ok-intern.ensures.here))
+          (place_in mid.origins _ (Solvable s) (step.growth.origins.kept _ (Solvable s) c.in_ok-intern.ensures.here))
           c.named-number.ensures.each_at c.named-number.ensures.every_at refl code.code
-          (λ i begins sound j t at. code.step.kinds _ (begun.begun i begins sound j t at)));
+          (λ i begins sound j t at. code.step.growth.kinds _ (begun.begun i begins sound j t at)));
       asked = c.in_ok-add_code.ensures.step.asked ∙ c.in_ok-begin_digit.ensures.step.asked;
       seen = let Has : List g.row.S.Denot → Type 0 = λ list. Contains list c.args.solvable in
           subst Has (sym c.in_ok-append.ensures.keys) (Contains-push c.add_code.new.self.seen.keys c.args.solvable);
@@ -53,7 +53,7 @@ returns g c =
           let mid = notes_in c.add_code.new.self in
           ⊎_elim
           (λ (before : Contains mid.seen t). inl
-          (IsWithin-equal mid.seen (notes_in c.args.self.now).seen (sym (c.in_ok-add_code.ensures.seen ∙ c.in_ok-begin_digit.ensures.seen)) t before))
+          (IsWithin-equal mid.seen (notes_in c.args.self.now).seen (sym (c.in_ok-add_code.ensures.step.seen ∙ c.in_ok-begin_digit.ensures.step.seen)) t before))
           (λ (last : c.args.solvable ≡ t). inr (sym last))
           (Contains-push_cases mid.seen c.args.solvable t
           (IsWithin-equal c.append.new.set.keys (mid.seen ++ c.args.solvable ∷ []) (sym c.in_ok-append.ensures.keys) t h));

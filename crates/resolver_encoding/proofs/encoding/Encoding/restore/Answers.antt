@@ -38,7 +38,7 @@ returns g c =
           let answer = c.candidates-package.ensures u c.fetch_candidates.ensures.is_true in
           IsRestored-found u c.args.solvable (notes_in c.args.self.now) (notes_in c.restore_lock.new.self)
           (notes_in c.restore_exclusions.new.self) c.solvable_name-name.result c.solvable_name-name.ensures
-          c.in_ok-restore_exclusions.ensures.step.kinds c.in_ok-restore_lock.ensures.step.exempt c.in_ok-restore_exclusions.ensures.step.exempt _ _ _
+          c.in_ok-restore_exclusions.ensures.step.growth.kinds c.in_ok-restore_lock.ensures.step.growth.exempt c.in_ok-restore_exclusions.ensures.step.growth.exempt _ _ _
           (c.deref.ensures.value ∙ ap (λ p. p.listed) answer) (ap (λ p. p.locked) answer) (c.deref-2.ensures.value ∙ ap (λ p. p.excluded) answer)
           c.in_ok-restore_lock.ensures.restored c.in_ok-restore_exclusions.ensures.restored;
       room = KeepsRoom-trans _ _ _ c.restore_lock.ensures.room c.restore_exclusions.ensures.room;

@@ -55,8 +55,8 @@ loop-other-preserved g c =
           Contains (notes_in c.loop-other.self).kinds (Excluded e.0 e.1)) (λ e.
           e.0 ≡ s → (Contains (notes_in c.args.self.now).exempt s → ⊥) →
           Contains (notes_in c.restore_exclusion.new.self).kinds
-          (Excluded e.0 e.1)) c.args.excluded.now c.loop-other.other-index c.loop-other-item.result (λ y h is free. step.kinds _ (h is free))
-          (omega arith) c.loop-other-item.is before.restored (subst Free before.step.exempt c.in_ok-restore_exclusion.ensures.restored);
+          (Excluded e.0 e.1)) c.args.excluded.now c.loop-other.other-index c.loop-other-item.result (λ y h is free. step.growth.kinds _ (h is free))
+          (omega arith) c.loop-other-item.is before.restored (subst Free before.step.growth.exempt c.in_ok-restore_exclusion.ensures.restored);
     }
 
 pub returns-clause-restored : goal.returns-clause-restored

@@ -30,7 +30,7 @@ loop-candidate-preserved g c =
           ⊤) (λ root _. tt) _ _ c.in_ok-see.ensures.step);
       seen = All-grown (Contains c.loop-candidate.self.seen.keys)
           (Contains c.see.new.self.seen.keys) c.args.candidates.now c.loop-candidate.candidate-index c.candidate-item.result (λ y h.
-          Extends-within _ _ c.in_ok-see.ensures.step.seen y h) (omega arith) c.candidate-item.is before.seen c.in_ok-see.ensures.seen;
+          Extends-within _ _ c.in_ok-see.ensures.step.growth.seen y h) (omega arith) c.candidate-item.is before.seen c.in_ok-see.ensures.seen;
     }
 
 pub returns-clause-seen : goal.returns-clause-seen

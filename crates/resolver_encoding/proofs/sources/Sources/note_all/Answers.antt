@@ -1,9 +1,9 @@
-use Rattle.std.proofs.Common.{subst, List, ℕ, refl}
+use Rattle.std.proofs.Common.{◌<◌, ◌∙◌, subst, List, ℕ, arith, length, rules, take}
 use Rattle.std.proofs.lemmas.List.{take_all}
 use Rattle.resolver_encoding.specs.Sources.{AreSources}
-use Rattle.std.proofs.Common.{arith, rules, take}
 use Rattle.std.specs.Prelude.{slice_index_or}
 use Rattle.std.proofs.lemmas.List.{get_or_default}
+use Rattle.resolver_clause_store.specs.declared.ClauseKind.TheVariants.{InstallRoot}
 use Rattle.resolver_encoding.specs.Values.{kinds_at}
 use Rattle.resolver_encoding.proofs.SourceLemmas.{sources_next}
 use Rattle.resolver_encoding.proofs.sources.Sources.note_all.Goals as goal
@@ -12,8 +12,11 @@ pub loop-number-preserved : goal.loop-number-preserved
 loop-number-preserved g c =
     let i = c.loop-number.number-index in
     let n = slice_index_or c.args.numbers.now i 0 in
-    sources_next c.args.kinds.now c.args.numbers.now i n _ c.note_at.new.self (search rules) (get_or_default c.args.numbers.now i 0 n (search rules)) refl
-    (c.in_ok-note_at.ensures.noted (kinds_at c.args.kinds.now (take i c.args.numbers.now)) c.loop-number.invariant)
+    let k = c.index-kinds-number.result in
+    let below : i < length c.args.numbers.now = search rules in
+    sources_next c.args.kinds.now c.args.numbers.now i n k c.note.new.self below (get_or_default c.args.numbers.now i 0 n below)
+    (c.index-kinds-number.is ∙ get_or_default c.args.kinds.now n k InstallRoot (c.requires.within i 0 below))
+    (c.in_ok-note.ensures.noted (kinds_at c.args.kinds.now (take i c.args.numbers.now)) c.loop-number.invariant)
 
 pub returns-clause-are : goal.returns-clause-are
 returns-clause-are g c =

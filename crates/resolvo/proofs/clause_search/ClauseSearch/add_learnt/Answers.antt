@@ -1,7 +1,7 @@
 use Rattle.std.proofs.Common.{arith, ◌<◌}
 use Rattle.std.proofs.lemmas.List.Elements.{All-contains}
 use Rattle.resolver_clause_store.specs.TrailView.{variable_count}
-use Rattle.resolver_clause_store.specs.declared.Literal.{Literal}
+use Rattle.resolver_clause_store.specs.Literals.{Literal}
 use Rattle.resolvo.proofs.ClauseSearchLemmas.{false-below}
 use Rattle.resolvo.proofs.TurnLemmas.{refused}
 use Rattle.resolvo.proofs.clause_search.ClauseSearch.add_learnt.Goals as goal

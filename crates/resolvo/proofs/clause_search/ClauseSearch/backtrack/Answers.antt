@@ -83,8 +83,8 @@ returns-clause-same c =
           (held-backtracked _ middle _ _ _ _ _ it.turn c.undo_until.ensures (omega (arith, c.max-back.ensures)) (keeps-gains _ _ _ _ _ gains free));
     }
 
-pub returns-clause-backtrack_level : goal.returns-clause-backtrack_level
-returns-clause-backtrack_level c =
+pub returns-clause-level : goal.returns-clause-level
+returns-clause-level c =
     let here : c.len-number.result ≡ length c.args.self.now.table = search rules in
     record { middle = c.undo_until.new.self; undone = rw c.max-back.ensures at c.undo_until.ensures; gains = rw here at c.in_ok-force.ensures.ok }
 

@@ -1,7 +1,7 @@
 use Rattle.std.proofs.Common.{List, ap, arith, subst, sym, ◌∙◌}
 use Rattle.std.proofs.lemmas.Bool.{false≢true}
 use Rattle.resolver_clause_store.specs.Decisions.{IsChoice}
-use Rattle.resolver_clause_store.specs.declared.Literal.{Literal}
+use Rattle.resolver_clause_store.specs.Literals.{Literal}
 use Rattle.resolver_clause_store.specs.declared.StoredRequirement.{StoredRequirement}
 use Rattle.resolvo.proofs.LoadLemmas.{problem-trans}
 use Rattle.resolvo.proofs.clause_search.ClauseSearch.decide.Goals as goal

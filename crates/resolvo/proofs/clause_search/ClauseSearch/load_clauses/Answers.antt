@@ -1,4 +1,4 @@
-use Rattle.std.proofs.Common.{arith, rules, sym, ◌≡◌, ◌∙◌, length}
+use Rattle.std.proofs.Common.{arith, rules, sym, ◌≡◌, length}
 use Rattle.resolvo.proofs.LoadLemmas.{clauses-begin, clauses-end, clauses-next, same-none, same-trans}
 use Rattle.resolvo.proofs.clause_search.ClauseSearch.load_clauses.Goals as goal
 
@@ -13,7 +13,7 @@ clauses-init c =
     }
 
 pub load_clause-requires-clause-below : goal.load_clause-requires-clause-below
-load_clause-requires-clause-below c = rw (c.deref.ensures.value, c.in_ok-read.ensures, c.clauses.invariant.same.variables)
+load_clause-requires-clause-below c = rw (c.clause.ensures, c.clauses.invariant.same.variables)
     (c.requires.below c.clauses.number)
 
 pub clauses-preserved : goal.clauses-preserved
@@ -25,7 +25,7 @@ clauses-preserved c =
       same = same-trans _ _ _ before.same step.same;
       count = omega (arith, step.count, before.count);
       loaded = λ given numbers more loaded is. clauses-next _ _ _ _ numbers _ (omega (arith, c.clauses-test.true, c.len-number-end.ensures))
-          (c.deref.ensures.value ∙ c.in_ok-read.ensures) step.loaded
+          c.clause.ensures step.loaded
           (before.loaded given numbers more loaded is);
     }
 

@@ -1,5 +1,5 @@
 use Rattle.std.proofs.Common.{◌≡◌, ◌++◌, ℕ, List, take, length}
-use Rattle.resolver_clause_store.specs.declared.Literal.{Literal}
+use Rattle.resolver_clause_store.specs.Literals.{Literal}
 use Rattle.resolvo.specs.ClauseSearches.{IsConsistent, IsLoaded, IsSameSearch}
 use Rattle.resolvo.proofs.clause_search.ClauseSearch.load_clauses.Given as goal
 

@@ -1,7 +1,7 @@
 use Rattle.std.specs.Prelude.{◌+◌, List}
 use Rattle.std.proofs.Common.{ap, ◌∙◌, arith, refl, subst}
 use Rattle.std.proofs.lemmas.List.{get_or_default}
-use Rattle.resolver_clause_store.specs.declared.Literal.{Literal}
+use Rattle.resolver_clause_store.specs.Literals.{Literal}
 use Rattle.resolver_clause_store.specs.declared.Reason.TheVariants.{Decided}
 use Rattle.resolver_clause_store.specs.Formula.{clause_at}
 use Rattle.resolver_clause_store.specs.TrailView.{Gains, level_of, literal_value}

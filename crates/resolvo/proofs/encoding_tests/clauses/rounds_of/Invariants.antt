@@ -7,6 +7,6 @@ use Rattle.resolvo.proofs.encoding_tests.clauses.rounds_of.Given as goal
 
 abbrev pub invariant-loop-given : goal.invariant-loop-given
 invariant-loop-given l = record {
-  is_true : IsTrueCache (test_universe l.provider.endless l.provider.requirements.items l.provider.constraints.items) l.cache;
-  reading : IsReading (test_universe l.provider.endless l.provider.requirements.items l.provider.constraints.items) [] (notes_in l.encoding);
+  is_true : IsTrueCache (test_universe l.provider.requirements.items l.provider.constraints.items) l.cache;
+  reading : IsReading (test_universe l.provider.requirements.items l.provider.constraints.items) [] (notes_in l.encoding);
 }

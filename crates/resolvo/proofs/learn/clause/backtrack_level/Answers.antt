@@ -1,5 +1,5 @@
 use Rattle.std.proofs.Common.{rules, ◌≤◌, ◌≡◌, ◌⊎◌}
-use Rattle.resolver_clause_store.specs.declared.Literal.{Literal}
+use Rattle.resolver_clause_store.specs.Literals.{Literal}
 use Rattle.resolver_clause_store.proofs.SetLemmas.{All-done}
 use Rattle.resolvo.specs.Resolvents.{level_in}
 use Rattle.resolvo.proofs.LevelLemmas.{backtrack_level-next, backtrack_level-same}

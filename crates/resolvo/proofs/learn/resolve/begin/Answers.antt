@@ -8,6 +8,8 @@ use Rattle.resolvo.proofs.learn.resolve.begin.Goals as goal
 
 pub returns-clause-resolvent : goal.returns-clause-resolvent
 returns-clause-resolvent c = record {
+  below = c.requires.below;
+  justified = c.requires.justified;
   size = search rules;
   listed = c.in_ok-mark_all.ensures.listed
       (record { within = rw c.new-marked.ensures.items (λ k d below. absurd (omega arith)); all = λ v m. absurd (both_ways _ (c.requires.blank v) m) });

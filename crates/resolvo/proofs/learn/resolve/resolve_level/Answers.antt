@@ -1,5 +1,5 @@
 use Rattle.std.proofs.lemmas.Grind.{common_steps}
-use Rattle.std.proofs.Common.{rules, arith, ◌≡◌, ◌-◌, ap, sym, ◌∙◌, true}
+use Rattle.std.proofs.Common.{rules, arith, ◌≡◌, ◌<◌, ◌-◌, ap, sym, ◌∙◌, true}
 use Rattle.resolver_clause_store.specs.Slots.{is_decided}
 use Rattle.resolvo.specs.Resolvents.{is_marked}
 use Rattle.resolvo.proofs.MarkLemmas.{marked-read}
@@ -7,9 +7,15 @@ use Rattle.resolvo.proofs.LevelLemmas.{levelled-skip, single-found, never-decide
 use Rattle.resolver_clause_store.proofs.SlotLemmas.{placed-slot}
 use Rattle.resolvo.proofs.learn.resolve.resolve_level.Goals as goal
 
-pub returns-then-is_single-clause-single : goal.returns-then-is_single-clause-single
-returns-then-is_single-clause-single c =
-    λ some. single-found _ _ c.places.place (c.places.place - 1) c.places.invariant.2 (omega arith) c.if-is_single.ensures.1 some
+pub returns-then-is_single : goal.returns-then-is_single
+returns-then-is_single c =
+    let so = c.places.invariant in
+    record {
+      resolvent = so.1;
+      inside = λ some. omega arith;
+      single = λ some. single-found _ _ c.places.place (c.places.place - 1) so.2 (omega arith) c.if-is_single.ensures.1 some;
+      none = λ none. absurd (omega (arith, none, c.if-is_single.ensures.0));
+    }
 
 decided : (c : goal.In-Decided) → ⊥
 decided c =
@@ -20,11 +26,8 @@ decided c =
     never-decided _ c.places.resolvent c.places.place (c.places.place - 1) c.variable_at-variable.result c.in-Some.slot c.places.invariant.2
     (omega arith) marked at (placed-slot _ _ _ c.variable_at-variable.ensures.placed at) c.if-is_single.ensures (ap is_decided c.in-Decided.is)
 
-pub returns-in-Decided-clause-single : goal.returns-in-Decided-clause-single
-returns-in-Decided-clause-single c = λ some. absurd (decided c)
-
-pub returns-in-Decided-clause-none : goal.returns-in-Decided-clause-none
-returns-in-Decided-clause-none c = λ none. absurd (decided c)
+pub returns-in-Decided : goal.returns-in-Decided
+returns-in-Decided c = absurd (decided c)
 
 assumed : (c : goal.In-Assumed) → ⊥
 assumed c =
@@ -35,11 +38,8 @@ assumed c =
     never-decided _ c.places.resolvent c.places.place (c.places.place - 1) c.variable_at-variable.result c.in-Some.slot c.places.invariant.2
     (omega arith) marked at (placed-slot _ _ _ c.variable_at-variable.ensures.placed at) c.if-is_single.ensures (ap is_decided c.in-Assumed.is)
 
-pub returns-in-Assumed-clause-single : goal.returns-in-Assumed-clause-single
-returns-in-Assumed-clause-single c = λ some. absurd (assumed c)
-
-pub returns-in-Assumed-clause-none : goal.returns-in-Assumed-clause-none
-returns-in-Assumed-clause-none c = λ none. absurd (assumed c)
+pub returns-in-Assumed : goal.returns-in-Assumed
+returns-in-Assumed c = absurd (assumed c)
 
 pub places-preserved : goal.places-preserved
 places-preserved c = (
@@ -51,24 +51,15 @@ places-preserved c = (
 pub places-preserved-in-Continue-1 : goal.places-preserved-in-Continue-1
 places-preserved-in-Continue-1 c = grind (arith, common_steps)
 
-pub returns-clause-inside : goal.returns-clause-inside
-returns-clause-inside c = λ some.
-    let stands = (c.places.invariant.2.mark some).stands in
-    omega (arith, stands.place_is, (c.args.trail.now.listed _ _ stands.is).0)
-
-pub returns-clause-none : goal.returns-clause-none
-returns-clause-none c = λ none. record {
-  before = λ variable slot marked at. omega (arith, c.places.invariant.2.before.before variable slot marked at, c.places-test.false);
-}
-
-pub returns-clause-resolvent : goal.returns-clause-resolvent
-returns-clause-resolvent c = grind (arith, common_steps)
-
-pub returns-then-is_single-clause-inside : goal.returns-then-is_single-clause-inside
-returns-then-is_single-clause-inside g c = grind (arith, common_steps)
-
-pub returns-then-is_single-clause-none : goal.returns-then-is_single-clause-none
-returns-then-is_single-clause-none g c = grind (arith, common_steps)
-
-pub returns-then-is_single-clause-resolvent : goal.returns-then-is_single-clause-resolvent
-returns-then-is_single-clause-resolvent c = grind (arith, common_steps)
+pub returns : goal.returns
+returns c =
+    let so = c.places.invariant in
+    let bottom : 0 < c.places.resolvent.level → ⊥ = λ some.
+    let mark = so.2.mark some in
+    omega (arith, so.2.before.before mark.variable mark.stands.slot mark.marked mark.stands.is, c.places-test.false) in
+    record {
+      resolvent = so.1;
+      inside = λ some. absurd (bottom some);
+      single = λ some. absurd (bottom some);
+      none = λ none. record { before = λ variable slot marked at. omega (arith, so.2.before.before variable slot marked at, c.places-test.false) };
+    }

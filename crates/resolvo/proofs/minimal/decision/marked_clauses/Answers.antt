@@ -1,6 +1,5 @@
 use Rattle.std.proofs.Common.{subst, take, List}
-use Rattle.resolvo.specs.MarkedClauses.{AreMarkedClauses}
-use Rattle.resolvo.specs.ClauseSearches.{numbers_of}
+use Rattle.resolvo.specs.MarkedClauses.{HoldsMarked}
 use Rattle.resolvo.specs.declared.minimal.rule_clauses.RuleClause.{RuleClause}
 use Rattle.std.proofs.lemmas.List.{take_all}
 use Rattle.resolvo.proofs.MarkedLemmas.{next_clause, no_clauses}
@@ -18,5 +17,5 @@ clauses-preserved c = next_clause c.args.marks.now c.args.clauses.now _ _ _ c.cl
 -- src/minimal/decision.rt:71:1
 pub returns : goal.returns
 returns c = let P : List RuleClause → Type 0 =
-    λ xs. AreMarkedClauses c.args.marks.now xs c.clauses.marked.clauses c.clauses.marked.places.items (numbers_of c.clauses.marked.requirements.items) in
+    λ xs. HoldsMarked c.args.marks.now xs c.clauses.marked in
     subst P (take_all c.clauses.index c.args.clauses.now c.clauses-test.false) c.clauses.invariant

@@ -1,8 +1,8 @@
-use Rattle.std.proofs.Common.{Some, false, subst, ◌≡◌}
+use Rattle.std.proofs.Common.{Some, false, subst, sym, ◌≡◌}
 use Rattle.std.proofs.lemmas.Option.{slice_get_within}
 use Rattle.resolver_clause_store.specs.TrailView.{literal_value}
-use Rattle.resolver_clause_store.specs.declared.Literal.{Literal}
-use Rattle.resolvo.proofs.VisitLemmas.{moves, own-other, propagates-none}
+use Rattle.resolver_clause_store.specs.Literals.{Literal}
+use Rattle.resolvo.proofs.VisitLemmas.{moves, own-other, paired-only, propagates-none}
 use Rattle.resolvo.proofs.ReplacementLemmas.{replaces-at}
 use Rattle.resolvo.proofs.TwoLiteralLemmas.{false-now, own-false}
 use Rattle.resolver_clause_store.proofs.ResultLemmas.{refused-any}
@@ -37,10 +37,11 @@ replacement-requires-clause-differ c = c.requires.pair.differ
 pub replacement-requires-clause-below : goal.replacement-requires-clause-below
 replacement-requires-clause-below c = rw c.clause-literals.ensures (c.requires.visiting.below c.args.watcher.now.placed.watch.number)
 
-pub move_watch-requires-clause-differ : goal.move_watch-requires-clause-differ
-move_watch-requires-clause-differ c = λ same.
+pub move_watch-requires-clause-unwatched : goal.move_watch-requires-clause-unwatched
+move_watch-requires-clause-unwatched c =
     let IsFalse : Literal → Type 0 = λ l. literal_value c.args.trail.now l ≡ Some false in
-    (rw c.clause-literals.ensures at (replaces-at _ _ _ _ _ c.in-Some.ensures c.index-literals-place.is)).not_false (subst IsFalse same (false-now _ _ _ _ _ c.requires.visiting))
+    let to = rw c.clause-literals.ensures at (replaces-at _ _ _ _ _ c.in-Some.ensures c.index-literals-place.is) in
+    paired-only _ _ _ _ _ c.requires.pair (λ same. to.not_false (subst IsFalse (sym same) (false-now _ _ _ _ _ c.requires.visiting))) to.differ
 
 pub returns-in_err-move_watch-in-Some : goal.returns-in_err-move_watch-in-Some
 returns-in_err-move_watch-in-Some c =

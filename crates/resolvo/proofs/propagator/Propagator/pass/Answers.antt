@@ -1,5 +1,6 @@
-use Rattle.std.proofs.Common.{◌≡◌, ◌⊎◌, ◌++◌, ◌∷◌, [], subst, Some}
+use Rattle.std.proofs.Common.{◌≡◌, ◌++◌, ◌∷◌, [], subst}
 use Rattle.resolver_clause_store.specs.declared.WatchedPair.{WatchedPair}
+use Rattle.resolver_clause_store.specs.Watches.{HasLiteral}
 use Rattle.resolvo.specs.Attaching.{IsHighPair}
 use Rattle.resolvo.specs.Propagators.{pending_of}
 use Rattle.resolvo.proofs.AttachingLemmas.{ends-with, passed-high, passed-late}
@@ -7,7 +8,7 @@ use Rattle.resolvo.proofs.propagator.Propagator.pass.Goals as goal
 
 pub are_high-requires : goal.are_high-requires
 are_high-requires c = λ literal watching. c.requires.below literal
-    (subst (λ (p : WatchedPair). (p.first ≡ Some literal) ⊎ (p.second ≡ Some literal)) c.pair-pair.ensures watching)
+    (subst (λ (p : WatchedPair). HasLiteral p literal) c.pair-pair.ensures watching)
 
 pub returns-then-are_high-clause-propagator : goal.returns-then-are_high-clause-propagator
 returns-then-are_high-clause-propagator c = λ table satisfied it.

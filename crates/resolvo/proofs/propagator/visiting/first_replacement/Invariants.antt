@@ -1,6 +1,6 @@
 use Rattle.std.proofs.Common.{◌≡◌, ◌<◌, ◌⊎◌, ℕ, Some, false}
 use Rattle.std.specs.Prelude.{slice_index_or}
-use Rattle.resolver_clause_store.specs.declared.Literal.{Literal}
+use Rattle.resolver_clause_store.specs.Literals.{Literal}
 use Rattle.resolver_clause_store.specs.TrailView.{literal_value}
 use Rattle.resolvo.proofs.propagator.visiting.first_replacement.Given as goal
 

@@ -13,7 +13,7 @@ load-requires g c =
     let u = g.D.Interner.universe c.args.provider.now in
     let old = c.args.self.now in
     record {
-      rounds = rounds_added u old c.ask.new.self c.requires.rounds
+      rounds = rounds_added u old c.ask.new.self c.requires.rest.rounds
           (asking_adds u c.version_set_name-name.result (notes_of old) (notes_in c.ask.new.self) c.in_ok-ask.ensures.alone);
     }
 
@@ -21,27 +21,30 @@ pub returns : goal.returns
 returns g c =
     record {
       is_true = c.ask.ensures.is_true;
-      rounds = c.in_ok-load.ensures.rounds;
-      still = let u = g.D.Interner.universe c.args.provider.now in
-          let old = c.args.self.now in
-          c.in_ok-load.ensures.still (still_added u old c.ask.new.self c.requires.rounds c.in_ok-ask.ensures.alone.origins c.requires.still);
-      chosen = ap chosen_in c.in_ok-load.ensures.same.chosen;
-      alone = let u = g.D.Interner.universe c.args.provider.now in
-          let Alone : Encoding g.row.N.Denot g.row.S.Denot → Type 0 = λ e. AsksOnly u c.version_set_name-name.result (notes_of c.args.self.now) (notes_in e) in
-          let Named : g.row.N.Denot → Type 0 = λ n. AsksOnly u n (notes_of c.args.self.now) (notes_of c.load.new.self) in
-          subst Named c.version_set_name-name.ensures (subst Alone (sym c.in_ok-load.ensures.same.encoding) c.in_ok-ask.ensures.alone);
-      standing = λ root taken refused seeds packages own b.
-          let u = g.D.Interner.universe c.args.provider.now in
+      rest = record {
+        rounds = c.in_ok-load.ensures.rounds;
+        still = c.in_ok-load.ensures.still
+            (still_added (g.D.Interner.universe c.args.provider.now) c.args.self.now c.ask.new.self c.requires.rest.rounds
+            c.in_ok-ask.ensures.alone.origins c.requires.rest.still);
+      };
+      asked = let u = g.D.Interner.universe c.args.provider.now in
           let old = c.args.self.now in
           let e = c.ask.new.self in
           let n = c.version_set_name-name.result in
           let alone = c.in_ok-ask.ensures.alone in
+          let Alone : Encoding g.row.N.Denot g.row.S.Denot → Type 0 = λ x. AsksOnly u n (notes_of old) (notes_in x) in
+          let Named : g.row.N.Denot → Type 0 = λ m. AsksOnly u m (notes_of old) (notes_of c.load.new.self) in
           let adds = asking_adds u n (notes_of old) (notes_in e) alone in
-          let Own : g.row.N.Denot → Type 0 = λ m. Contains packages m in
-          standing_loaded u root taken refused seeds packages (record old { encoding = e }) c.load.new.self
-          (rounds_added u old e c.requires.rounds adds).variables c.in_ok-load.ensures.same c.in_ok-load.ensures.turn
-          (standing_asked u root taken refused seeds packages old e c.requires.rounds adds alone.exempt b n
-          (subst Own (sym c.version_set_name-name.ensures) own) alone);
+          record {
+            chosen = ap chosen_in c.in_ok-load.ensures.same.chosen;
+            alone = subst Named c.version_set_name-name.ensures (subst Alone (sym c.in_ok-load.ensures.same.encoding) alone);
+            standing = λ root taken refused seeds packages own b.
+                let Own : g.row.N.Denot → Type 0 = λ m. Contains packages m in
+                standing_loaded u root taken refused seeds packages (record old { encoding = e }) c.load.new.self
+                (rounds_added u old e c.requires.rest.rounds adds).variables c.in_ok-load.ensures.same c.in_ok-load.ensures.turn
+                (standing_asked u root taken refused seeds packages old e c.requires.rest.rounds adds alone.exempt b n
+                (subst Own (sym c.version_set_name-name.ensures) own) alone);
+          };
       limits = room_trans c.args.self.now (record c.args.self.now { encoding = c.ask.new.self }) c.load.new.self (record { notes = c.ask.ensures.limits; clauses = refl; learnt = refl }) c.load.ensures.limits;
       refusal = tt;
     }

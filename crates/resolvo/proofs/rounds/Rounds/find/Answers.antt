@@ -1,38 +1,38 @@
-use Rattle.std.proofs.Common.{[], arith}
+use Rattle.std.proofs.Common.{[], List, ◌++◌, arith, subst}
+use Rattle.std.specs.Prelude.{map}
 use Rattle.resolver_clause_store.specs.Outcomes.{IsCore}
-use Rattle.resolver_clause_store.specs.Universe.{Demands}
+use Rattle.resolver_clause_store.specs.declared.SoftRequirement.{SoftRequirement}
+use Rattle.resolver_clause_store.specs.declared.SoftRequirement.TheVariants.{Solvable}
 use Rattle.resolvo.specs.ClauseSearches.{IsRefused, base_of, trail_of}
-use Rattle.resolvo.specs.RoundStates.{IsAnswering, IsFound, notes_of}
-use Rattle.resolvo.proofs.SoftLemmas.{between_begun, between_held, rounds_held, still_held}
+use Rattle.resolvo.specs.Problems.{demands_in}
+use Rattle.resolvo.specs.RoundStates.{IsAnswering, IsBetween, IsFound, notes_of}
+use Rattle.resolvo.proofs.SoftLemmas.{between_begun, between_held, rest_held}
 use Rattle.resolvo.proofs.RoundLemmas.{room_trans}
 use Rattle.resolvo.proofs.rounds.Rounds.find.Goals as goal
 
-pub soft_turns-requires-clause-rounds : goal.soft_turns-requires-clause-rounds
-soft_turns-requires-clause-rounds g c =
-    rounds_held (g.D.Interner.universe c.args.provider.now) c.all_rounds.new.self c.hold.new.self c.hold.ensures.trail c.hold.ensures.count
-    c.in_ok-all_rounds.ensures.rounds c.hold.ensures.consistent c.hold.ensures.loaded
-
-pub soft_turns-requires-clause-still : goal.soft_turns-requires-clause-still
-soft_turns-requires-clause-still g c =
+pub soft_turns-requires-clause-rest : goal.soft_turns-requires-clause-rest
+soft_turns-requires-clause-rest g c =
     let u = g.D.Interner.universe c.args.provider.now in
     let rest = c.all_rounds.new.self in
     let found : IsFound u rest c.in_ok-all_rounds.field-0 = c.in_ok-all_rounds.ensures.found in
     let answering : IsAnswering u rest = rw c.in-Answer.is at found in
-    still_held u rest c.hold.new.self c.hold.ensures.trail c.hold.ensures.count c.hold.ensures.held answering.bookmarked answering.chosen
+    rest_held u rest c.hold.new.self c.hold.ensures.trail c.hold.ensures.count c.hold.ensures.held c.in_ok-all_rounds.ensures.rounds
+    c.hold.ensures.consistent c.hold.ensures.loaded answering
 
 pub returns-in_ok-soft_turns-in-Answer : goal.returns-in_ok-soft_turns-in-Answer
 returns-in_ok-soft_turns-in-Answer g c =
     record {
       is_true = c.soft_turns.ensures.is_true;
       done = let u = g.D.Interner.universe c.args.provider.now in
-          let root : Demands = record { requirements = c.args.requirements.now; constraints = c.args.constraints.now } in
+          let root = demands_in c.args.problem.now in
           let rest = c.all_rounds.new.self in
           let found : IsFound u rest c.in_ok-all_rounds.field-0 = c.in_ok-all_rounds.ensures.found in
           let answering : IsAnswering u rest = rw c.in-Answer.is at found in
           let begun = c.in_ok-begin.ensures in
           let first = between_begun u root c.begin.new.self rest begun.read begun.near begun.exempt begun.turn c.in_ok-all_rounds.ensures.keeps answering in
           let w = c.in_ok-soft_turns-in-Answer.ensures.between root (between_held u rest c.hold.new.self c.hold.ensures.trail c.hold.ensures.count root [] first) in
-          (w.0, λ e. w.1, w.2);
+          let Between : List (SoftRequirement g.row.S.Denot) → Type 0 = λ list. IsBetween u root (map Solvable w.0 ++ list) c.soft_turns.new.self in
+          (w.0, λ e. w.1, subst Between c.listed_soft_requirements.ensures w.2);
       table = c.in_ok-soft_turns-in-Answer.ensures.rounds.reading.so_far.half.encoding.encoded.count;
       limits = let first = room_trans c.args.self.now c.begin.new.self c.all_rounds.new.self c.begin.ensures.limits c.all_rounds.ensures.limits in
           room_trans c.args.self.now (record c.all_rounds.new.self { search = c.hold.new.self }) c.soft_turns.new.self
@@ -45,7 +45,7 @@ returns-in-Contradiction g c =
     record {
       is_true = c.all_rounds.ensures.is_true;
       done = let u = g.D.Interner.universe c.args.provider.now in
-          let root : Demands = record { requirements = c.args.requirements.now; constraints = c.args.constraints.now } in
+          let root = demands_in c.args.problem.now in
           let rest = c.all_rounds.new.self in
           let found : IsFound u rest c.in_ok-all_rounds.field-0 = c.in_ok-all_rounds.ensures.found in
           let core : IsCore (notes_of rest).table c.in-Contradiction.core.items = rw c.in-Contradiction.is at found in

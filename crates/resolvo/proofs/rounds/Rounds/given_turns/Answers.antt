@@ -6,8 +6,7 @@ pub returns-in_ok-solvable_turns-in-Some : goal.returns-in_ok-solvable_turns-in-
 returns-in_ok-solvable_turns-in-Some g c =
     record {
       is_true = c.solvable_turns.ensures.is_true;
-      rounds = c.in_ok-solvable_turns-in-Some.ensures.rounds;
-      still = c.in_ok-solvable_turns-in-Some.ensures.still;
+      rest = c.in_ok-solvable_turns-in-Some.ensures.rest;
       between = λ root b.
           let w = c.in_ok-solvable_turns-in-Some.ensures.between root b in
           let Items : Option g.row.I.Denot → Type 0 = λ soft. AreItems g.I.Iterator.next_gives soft w.0 in

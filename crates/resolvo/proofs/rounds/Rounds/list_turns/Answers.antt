@@ -8,8 +8,7 @@ use Rattle.resolvo.proofs.rounds.Rounds.list_turns.Goals as goal
 pub loop-requirement-init : goal.loop-requirement-init
 loop-requirement-init g c = record {
   is_true = c.requires.is_true;
-  rounds = c.requires.rounds;
-  still = c.requires.still;
+  rest = c.requires.rest;
   room = room_same c.args.self.now;
   between = λ root done b.
       let Between : List (SoftRequirement g.row.S.Denot) → Type 0 = λ list. IsBetween (g.D.Interner.universe c.args.provider.now) root list c.args.self.now in
@@ -24,8 +23,7 @@ loop-requirement-preserved g c =
     let before = c.loop-requirement.invariant in
     record {
       is_true = c.soft_turn.ensures.is_true;
-      rounds = c.in_ok-soft_turn.ensures.rounds;
-      still = c.in_ok-soft_turn.ensures.still;
+      rest = c.in_ok-soft_turn.ensures.rest;
       room = room_trans c.args.self.now c.loop-requirement.self c.soft_turn.new.self before.room c.soft_turn.ensures.limits;
       between = λ root done b.
           let Between : List (SoftRequirement g.row.S.Denot) → Type 0 =
@@ -39,7 +37,7 @@ pub returns : goal.returns
 returns g c =
     record {
       is_true = c.loop-requirement.invariant.is_true;
-      rounds = c.loop-requirement.invariant.rounds;
+      rounds = c.loop-requirement.invariant.rest.rounds;
       between = λ root done b.
           let all = c.args.list.now in
           let Between : List (SoftRequirement g.row.S.Denot) → Type 0 =

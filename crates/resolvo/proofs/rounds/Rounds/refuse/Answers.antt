@@ -1,6 +1,8 @@
 use Rattle.resolver_encoding.specs.Trails.{solvables_before}
-use Rattle.std.proofs.Common.{ap, arith, false, refl, subst, sym, ◌≡◌, ◌∙◌, ◌+◌, ◌-◌, ℕ}
-use Rattle.resolver_clause_store.specs.TrailView.{Gains, IsCut, length_of, level_of, slot_of}
+use Rattle.std.proofs.Common.{ap, arith, false, refl, subst, sym, ◌≡◌, ◌<◌, ◌∙◌, ◌+◌, ◌-◌, ℕ}
+use Rattle.std.specs.Prelude.{None}
+use Rattle.resolver_clause_store.specs.Literals.{Literal}
+use Rattle.resolver_clause_store.specs.TrailView.{Gains, IsCut, length_of, level_of, slot_of, variable_count}
 use Rattle.resolver_clause_store.specs.declared.Reason.TheVariants.{Assumed}
 use Rattle.resolver_clause_store.specs.declared.Trail.{Trail}
 use Rattle.resolver_encoding.specs.Notes.{notes_in}
@@ -27,7 +29,9 @@ assume-requires-clause-inside g c =
     let mid = c.load.new.self.search in
     let assumed : HasAssumed mid c.args.variable =
     still_assumed old mid c.args.variable c.requires.rounds.consistent c.in_ok-load.ensures.turn c.requires.assumed in
-    omega (arith, assumed_inside mid c.args.variable c.in_ok-load.ensures.rounds.consistent assumed, c.in_ok-retract.ensures.cut.size)
+    let Inside : Literal → Type 0 = λ l. l.variable < variable_count (trail_of c.retract.new.self) in
+    subst Inside (sym c.new.ensures)
+    (omega (arith, assumed_inside mid c.args.variable c.in_ok-load.ensures.rounds.consistent assumed, c.in_ok-retract.ensures.cut.size))
 
 pub assume-requires-clause-free : goal.assume-requires-clause-free
 assume-requires-clause-free g c =
@@ -35,7 +39,8 @@ assume-requires-clause-free g c =
     let mid = c.load.new.self.search in
     let assumed : HasAssumed mid c.args.variable =
     still_assumed old mid c.args.variable c.requires.rounds.consistent c.in_ok-load.ensures.turn c.requires.assumed in
-    ap (slot_of (trail_of c.retract.new.self)) (sym assumed.place) ∙ c.in_ok-retract.ensures.free
+    let Free : Literal → Type 0 = λ l. slot_of (trail_of c.retract.new.self) l.variable ≡ None in
+    subst Free (sym c.new.ensures) (ap (slot_of (trail_of c.retract.new.self)) (sym assumed.place) ∙ c.in_ok-retract.ensures.free)
 
 pub follow-requires-clause-loaded : goal.follow-requires-clause-loaded
 follow-requires-clause-loaded g c =
@@ -58,28 +63,33 @@ follow-requires-clause-bookmark g c =
 
 pub returns : goal.returns
 returns g c =
+    let before = trail_of c.retract.new.self in
+    let Gained : Literal → Type 0 = λ l. Gains before (trail_of c.assume.new.self) l (level_of before + 1) Assumed in
+    let gains = subst Gained c.new.ensures c.in_ok-assume.ensures.gains in
     record {
       is_true = c.end_turn.ensures.is_true;
-      rounds = let u = g.D.Interner.universe c.args.provider.now in
-          let old = c.args.self.now.search in
-          let mid = c.load.new.self in
-          let assumed : HasAssumed mid.search c.args.variable =
-          still_assumed old mid.search c.args.variable c.requires.rounds.consistent c.in_ok-load.ensures.turn c.requires.assumed in
-          rounds_followed u mid (record mid { search = c.assume.new.self }) c.follow.new.self c.in_ok-follow.field-0 c.in_ok-load.ensures.rounds refl
-          c.in_ok-follow.ensures.following
-          (refused_within u mid (trail_of c.retract.new.self)
-          (trail_of c.assume.new.self) c.args.variable _ c.in_ok-load.ensures.rounds assumed.base c.in_ok-retract.ensures.cut c.in_ok-assume.ensures.gains
-          (ap (slot_of (trail_of c.retract.new.self)) (sym assumed.place) ∙ c.in_ok-retract.ensures.free) c.in_ok-follow.ensures.followed.chosen);
-      still = let followed = c.in_ok-follow.ensures.followed in
-          let encoding = c.in_ok-follow.ensures.following.encoding in
-          let trail = trail_of c.assume.new.self in
-          record {
-            held = followed.turn.held ∙ c.in_ok-assume.ensures.held ∙ ap length_of (sym followed.trail);
-            bookmarked = followed.bookmarked;
-            chosen = followed.chosen ∙
-                ap (λ (e : Encoding g.row.N.Denot g.row.S.Denot). solvables_before (notes_in e).origins trail (length_of trail)) (sym encoding) ∙
-                ap (λ (t : Trail). solvables_before (notes_of c.follow.new.self).origins t (length_of t)) (sym followed.trail);
-          };
+      rest = record {
+        rounds = let u = g.D.Interner.universe c.args.provider.now in
+            let old = c.args.self.now.search in
+            let mid = c.load.new.self in
+            let assumed : HasAssumed mid.search c.args.variable =
+            still_assumed old mid.search c.args.variable c.requires.rounds.consistent c.in_ok-load.ensures.turn c.requires.assumed in
+            rounds_followed u mid (record mid { search = c.assume.new.self }) c.follow.new.self c.in_ok-follow.field-0 c.in_ok-load.ensures.rounds refl
+            c.in_ok-follow.ensures.following
+            (refused_within u mid (trail_of c.retract.new.self)
+            (trail_of c.assume.new.self) c.args.variable _ c.in_ok-load.ensures.rounds assumed.base c.in_ok-retract.ensures.cut gains
+            (ap (slot_of (trail_of c.retract.new.self)) (sym assumed.place) ∙ c.in_ok-retract.ensures.free) c.in_ok-follow.ensures.followed.chosen);
+        still = let followed = c.in_ok-follow.ensures.followed in
+            let encoding = c.in_ok-follow.ensures.following.encoding in
+            let trail = trail_of c.assume.new.self in
+            record {
+              held = followed.turn.held ∙ c.in_ok-assume.ensures.held ∙ ap length_of (sym followed.trail);
+              bookmarked = followed.bookmarked;
+              chosen = followed.chosen ∙
+                  ap (λ (e : Encoding g.row.N.Denot g.row.S.Denot). solvables_before (notes_in e).origins trail (length_of trail)) (sym encoding) ∙
+                  ap (λ (t : Trail). solvables_before (notes_of c.follow.new.self).origins t (length_of t)) (sym followed.trail);
+            };
+      };
       refused = let u = g.D.Interner.universe c.args.provider.now in
           let old = c.args.self.now in
           let mid = c.load.new.self in
@@ -99,7 +109,7 @@ returns g c =
             cut = trail_of c.retract.new.self;
             is_cut = subst CutTo c.in_ok-load.ensures.turn.held c.in_ok-retract.ensures.cut;
             free = ap (slot_of (trail_of c.retract.new.self)) (sym assumed.place) ∙ c.in_ok-retract.ensures.free;
-            gains = subst GainsTo (sym c.in_ok-follow.ensures.followed.trail) c.in_ok-assume.ensures.gains;
+            gains = subst GainsTo (sym c.in_ok-follow.ensures.followed.trail) gains;
           };
       limits = let loaded = room_trans c.args.self.now (record c.args.self.now { encoding = c.end_turn.new.self }) c.load.new.self
           (record { notes = c.end_turn.ensures.limits; clauses = refl; learnt = refl }) c.load.ensures.limits in

@@ -2,7 +2,7 @@ use Rattle.std.proofs.Common.{List, refl, ◌≡◌}
 use Rattle.resolver_clause_store.specs.Outcomes.{IsFinished}
 use Rattle.resolver_clause_store.specs.declared.RequirementClause.{RequirementClause}
 use Rattle.resolver_encoding.specs.SoFar.{IsProgress}
-use Rattle.resolvo.specs.ClauseSearches.{OutcomeIs, base_of, numbers_of, trail_of}
+use Rattle.resolvo.specs.ClauseSearches.{OutcomeIs, numbers_of, trail_of}
 use Rattle.resolvo.specs.RoundStates.{notes_of}
 use Rattle.resolvo.proofs.GoingLemmas.{answering, goes_searched, goes_trans}
 use Rattle.resolver_encoding.proofs.SoFarLemmas.{lawful_solvables}
@@ -16,7 +16,7 @@ returns-in-Contradiction g c =
       rounds = c.in_ok-core.ensures.rounds;
       keeps = goes_searched (g.D.Interner.universe c.args.provider.now) c.args.self.now c.search.new.self c.in_ok-core.ensures.same c.in_ok-core.ensures.turn;
       round = let mid = c.search.new.self in
-          let outcome : OutcomeIs (notes_of mid).table (notes_of mid).requirements (trail_of mid.search) (base_of mid.search) c.in_ok-core.field-0 =
+          let outcome : OutcomeIs (notes_of mid).table (notes_of mid).requirements mid.search c.in_ok-core.field-0 =
           c.in_ok-core.ensures.outcome in
           rw c.in-Contradiction.is at outcome;
       limits = c.search.ensures.limits;
@@ -30,7 +30,7 @@ returns-in-Refused g c =
       rounds = c.in_ok-core.ensures.rounds;
       keeps = goes_searched (g.D.Interner.universe c.args.provider.now) c.args.self.now c.search.new.self c.in_ok-core.ensures.same c.in_ok-core.ensures.turn;
       round = let mid = c.search.new.self in
-          let outcome : OutcomeIs (notes_of mid).table (notes_of mid).requirements (trail_of mid.search) (base_of mid.search) c.in_ok-core.field-0 =
+          let outcome : OutcomeIs (notes_of mid).table (notes_of mid).requirements mid.search c.in_ok-core.field-0 =
           c.in_ok-core.ensures.outcome in
           rw c.in-Refused.is at outcome;
       limits = c.search.ensures.limits;
@@ -50,7 +50,7 @@ returns-in-Nothing g c =
           let new = c.read.new.self in
           let up = c.in_ok-core.ensures.loaded in
           let followed = c.in_ok-read-in-Finished.ensures.followed in
-          let outcome : OutcomeIs (notes_of mid).table (notes_of mid).requirements (trail_of mid.search) (base_of mid.search) c.in_ok-core.field-0 =
+          let outcome : OutcomeIs (notes_of mid).table (notes_of mid).requirements mid.search c.in_ok-core.field-0 =
           c.in_ok-core.ensures.outcome in
           let finished : (requirements : List RequirementClause) → numbers_of requirements ≡ (notes_of mid).requirements →
           IsFinished (notes_of mid).table requirements (trail_of mid.search) = rw c.in-Finished.is at outcome in

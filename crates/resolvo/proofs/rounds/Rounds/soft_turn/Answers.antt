@@ -12,8 +12,7 @@ pub returns-in_ok-turn-in-Solvable : goal.returns-in_ok-turn-in-Solvable
 returns-in_ok-turn-in-Solvable g c =
     record {
       is_true = c.turn.ensures.is_true;
-      rounds = c.in_ok-turn-in-Solvable.ensures.rounds;
-      still = c.in_ok-turn-in-Solvable.ensures.still;
+      rest = c.in_ok-turn-in-Solvable.ensures.rest;
       between = λ root done b.
           let u = g.D.Interner.universe c.args.provider.now in
           let s = c.in-Solvable.solvable in
@@ -30,8 +29,7 @@ pub returns-in_ok-version_set_turn-in-Matching : goal.returns-in_ok-version_set_
 returns-in_ok-version_set_turn-in-Matching g c =
     record {
       is_true = c.version_set_turn.ensures.is_true;
-      rounds = c.in_ok-version_set_turn-in-Matching.ensures.rounds;
-      still = c.in_ok-version_set_turn-in-Matching.ensures.still;
+      rest = c.in_ok-version_set_turn-in-Matching.ensures.rest;
       between = λ root done b.
           let u = g.D.Interner.universe c.args.provider.now in
           let Between : SoftRequirement g.row.S.Denot → Type 0 = λ q. IsBetween u root (done ++ q ∷ []) c.version_set_turn.new.self in

@@ -21,8 +21,5 @@ given_turns-requires-clause-can_next g c = c.requires.can_next
 pub given_turns-requires-clause-ends : goal.given_turns-requires-clause-ends
 given_turns-requires-clause-ends g c = c.requires.ends
 
-pub list_turns-requires-clause-still : goal.list_turns-requires-clause-still
-list_turns-requires-clause-still g c = c.in_ok-given_turns.ensures.still
-
-pub list_turns-requires-clause-rounds : goal.list_turns-requires-clause-rounds
-list_turns-requires-clause-rounds g c = c.in_ok-given_turns.ensures.rounds
+pub list_turns-requires-clause-rest : goal.list_turns-requires-clause-rest
+list_turns-requires-clause-rest g c = c.in_ok-given_turns.ensures.rest

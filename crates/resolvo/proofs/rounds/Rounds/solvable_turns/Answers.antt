@@ -12,8 +12,7 @@ pub returns : goal.returns
 returns g c =
     record {
       is_true = c.loop-solvable.invariant.is_true;
-      rounds = c.loop-solvable.invariant.rounds;
-      still = c.loop-solvable.invariant.still;
+      rest = c.loop-solvable.invariant.rest;
       between = λ root b. (
         c.loop-solvable.yielded,
         gives_all g.I.Iterator.next_gives c.args.soft c.into_iter-solvable-iterator.result _ c.into_iter-solvable-iterator.ensures.into_iter_gives
@@ -30,8 +29,7 @@ loop-solvable-preserved g c =
     let s = c.in-Some.solvable in
     record {
       is_true = c.soft_turn.ensures.is_true;
-      rounds = c.in_ok-soft_turn.ensures.rounds;
-      still = c.in_ok-soft_turn.ensures.still;
+      rest = c.in_ok-soft_turn.ensures.rest;
       room = room_trans c.args.self.now c.loop-solvable.self c.soft_turn.new.self before.room c.soft_turn.ensures.limits;
       between = λ root b.
           let Between : List (SoftRequirement g.row.S.Denot) → Type 0 =
@@ -43,11 +41,10 @@ loop-solvable-preserved g c =
 pub loop-solvable-init : goal.loop-solvable-init
 loop-solvable-init g c = record {
   is_true = c.requires.is_true;
-  rounds = c.requires.rounds;
-  still = c.requires.still;
+  rest = c.requires.rest;
   room = room_same c.args.self.now;
   between = λ root b. b;
 }
 
-pub soft_turn-requires-clause-still : goal.soft_turn-requires-clause-still
-soft_turn-requires-clause-still g c = c.loop-solvable.invariant.still
+pub soft_turn-requires-clause-rest : goal.soft_turn-requires-clause-rest
+soft_turn-requires-clause-rest g c = c.loop-solvable.invariant.rest

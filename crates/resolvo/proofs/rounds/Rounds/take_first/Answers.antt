@@ -10,8 +10,7 @@ use Rattle.resolvo.proofs.rounds.Rounds.take_first.Goals as goal
 pub loop-candidate-init : goal.loop-candidate-init
 loop-candidate-init g c = record {
   is_true = c.requires.is_true;
-  rounds = c.requires.rounds;
-  still = c.requires.still;
+  rest = c.requires.rest;
   room = room_same c.args.self.now;
   turned = λ root taken refused seeds packages within b. none_tried
       (g.D.Interner.universe c.args.provider.now) root taken seeds packages c.args.self.now refused b;
@@ -21,8 +20,7 @@ pub returns-then-branch : goal.returns-then-branch
 returns-then-branch g c =
     record {
       is_true = c.turn.ensures.is_true;
-      rounds = c.in_ok-turn.ensures.rounds;
-      still = c.in_ok-turn.ensures.still;
+      rest = c.in_ok-turn.ensures.rest;
       turned = λ root taken refused seeds packages within b.
           let u = g.D.Interner.universe c.args.provider.now in
           let s = c.candidate-item.result in
@@ -50,8 +48,7 @@ loop-candidate-preserved g c =
     let before = c.loop-candidate.invariant in
     record {
       is_true = c.turn.ensures.is_true;
-      rounds = c.in_ok-turn.ensures.rounds;
-      still = c.in_ok-turn.ensures.still;
+      rest = c.in_ok-turn.ensures.rest;
       room = room_trans c.args.self.now mid new before.room c.turn.ensures.limits;
       turned = λ root taken refused seeds packages within b.
           let h = before.turned root taken refused seeds packages within b in
@@ -69,8 +66,7 @@ pub returns : goal.returns
 returns g c =
     record {
       is_true = c.loop-candidate.invariant.is_true;
-      rounds = c.loop-candidate.invariant.rounds;
-      still = c.loop-candidate.invariant.still;
+      rest = c.loop-candidate.invariant.rest;
       turned = λ root taken refused seeds packages within b.
           let u = g.D.Interner.universe c.args.provider.now in
           let all = c.args.candidates.now in

@@ -18,7 +18,7 @@ load-requires g c =
     let u = g.D.Interner.universe c.args.provider.now in
     let old = c.args.self.now in
     record {
-      rounds = rounds_added u old c.register.new.self c.requires.rounds
+      rounds = rounds_added u old c.register.new.self c.requires.rest.rounds
           (registered_adds u c.args.solvable (notes_of old) (notes_in c.register.new.self) c.in_ok-variable.ensures.registered);
     }
 
@@ -32,20 +32,24 @@ slot-requires g c =
     let Count : Trail → Type 0 = λ t. c.in_ok-variable.variable < variable_count t in
     subst Count (sym c.trail.ensures) (omega (arith, now, up.variables))
 
-pub attempt-requires-clause-still : goal.attempt-requires-clause-still
-attempt-requires-clause-still g c =
-    let u = g.D.Interner.universe c.args.provider.now in
-    let old = c.args.self.now in
-    c.in_ok-load.ensures.still (still_added u old c.register.new.self c.requires.rounds c.in_ok-variable.ensures.registered.origins c.requires.still)
+pub attempt-requires-clause-rest : goal.attempt-requires-clause-rest
+attempt-requires-clause-rest g c = record {
+  rounds = c.in_ok-load.ensures.rounds;
+  still = c.in_ok-load.ensures.still
+      (still_added (g.D.Interner.universe c.args.provider.now) c.args.self.now c.register.new.self c.requires.rest.rounds
+      c.in_ok-variable.ensures.registered.origins c.requires.rest.still);
+}
 
 pub returns-in-Some : goal.returns-in-Some
 returns-in-Some g c =
     record {
       is_true = c.requires.is_true;
-      rounds = c.in_ok-load.ensures.rounds;
-      still = let u = g.D.Interner.universe c.args.provider.now in
-          let old = c.args.self.now in
-          c.in_ok-load.ensures.still (still_added u old c.register.new.self c.requires.rounds c.in_ok-variable.ensures.registered.origins c.requires.still);
+      rest = record {
+        rounds = c.in_ok-load.ensures.rounds;
+        still = c.in_ok-load.ensures.still
+            (still_added (g.D.Interner.universe c.args.provider.now) c.args.self.now c.register.new.self c.requires.rest.rounds
+            c.in_ok-variable.ensures.registered.origins c.requires.rest.still);
+      };
       turned = λ root taken refused seeds packages seed b.
           let u = g.D.Interner.universe c.args.provider.now in
           let s = c.args.solvable in
@@ -56,8 +60,8 @@ returns-in-Some g c =
           let adds = registered_adds u s (notes_of old) (notes_in e) registered in
           let same = c.in_ok-load.ensures.same in
           let loaded = standing_loaded u root taken refused seeds packages (record old { encoding = e }) new
-          (rounds_added u old e c.requires.rounds adds).variables same c.in_ok-load.ensures.turn
-          (standing_registered u root taken refused seeds packages old e c.requires.rounds adds registered.exempt b s seed registered.only registered.asked) in
+          (rounds_added u old e c.requires.rest.rounds adds).variables same c.in_ok-load.ensures.turn
+          (standing_registered u root taken refused seeds packages old e c.requires.rest.rounds adds registered.exempt b s seed registered.only registered.asked) in
           let Stands : Encoding g.row.N.Denot g.row.S.Denot → Type 0 = λ x. slice_get (notes_in x).origins c.in_ok-variable.variable ≡ Some (SolvableOrigin s) in
           let At : Trail → Type 0 = λ t. slot_of t c.in_ok-variable.variable ≡ Some c.in-Some.slot in
           turned_from u root taken refused seeds packages s old new new c.in-Some.slot.value (ap chosen_in same.chosen)
@@ -65,7 +69,7 @@ returns-in-Some g c =
           (skipped u (lawful_solvables u g.S.PartialEq.eq (g.met.D.Interner.lawful_ids c.args.provider.now)
           (g.met.D.Interner.solvables_compare c.args.provider.now) g.met.D.Interner.solvables_are_values) g.N.PartialEq.eq g.met.D.Interner.names_are_values root
           taken refused seeds packages s c.in_ok-variable.variable c.in-Some.slot new c.in_ok-load.ensures.rounds c.in_ok-load.ensures.loaded.variables
-          (c.in_ok-load.ensures.still (still_added u old e c.requires.rounds registered.origins c.requires.still))
+          (c.in_ok-load.ensures.still (still_added u old e c.requires.rest.rounds registered.origins c.requires.rest.still))
           (subst Stands (sym same.encoding) c.in_ok-variable.ensures.variable)
           (subst At c.trail.ensures (sym c.slot.ensures ∙ c.in-Some.is)) loaded);
       limits = room_trans c.args.self.now (record c.args.self.now { encoding = c.register.new.self }) c.load.new.self
@@ -77,8 +81,7 @@ pub returns-in_ok-is_chosen-in-None : goal.returns-in_ok-is_chosen-in-None
 returns-in_ok-is_chosen-in-None g c =
     record {
       is_true = c.attempt.ensures.is_true;
-      rounds = c.in_ok-is_chosen-in-None.ensures.rounds;
-      still = c.in_ok-is_chosen-in-None.ensures.still;
+      rest = c.in_ok-is_chosen-in-None.ensures.rest;
       turned = λ root taken refused seeds packages seed b.
           let u = g.D.Interner.universe c.args.provider.now in
           let s = c.args.solvable in
@@ -89,12 +92,12 @@ returns-in_ok-is_chosen-in-None g c =
           let adds = registered_adds u s (notes_of old) (notes_in e) registered in
           let same = c.in_ok-load.ensures.same in
           let loaded = standing_loaded u root taken refused seeds packages (record old { encoding = e }) mid
-          (rounds_added u old e c.requires.rounds adds).variables same c.in_ok-load.ensures.turn
-          (standing_registered u root taken refused seeds packages old e c.requires.rounds adds registered.exempt b s seed registered.only registered.asked) in
+          (rounds_added u old e c.requires.rest.rounds adds).variables same c.in_ok-load.ensures.turn
+          (standing_registered u root taken refused seeds packages old e c.requires.rest.rounds adds registered.exempt b s seed registered.only registered.asked) in
           let Seen : Encoding g.row.N.Denot g.row.S.Denot → Type 0 = λ x. Contains (notes_in x).seen s in
           turned_from u root taken refused seeds packages s old mid _ _ (ap chosen_in same.chosen) (ap (λ x. (notes_in x).exempt) same.encoding ∙ registered.exempt)
           (ap (λ x. (notes_in x).asked) same.encoding ∙ registered.asked)
-          (c.in_ok-is_chosen-in-None.ensures.turned root taken refused seeds packages (subst Seen (sym same.encoding) registered.here) seed loaded);
+          (c.in_ok-is_chosen-in-None.ensures.turned (subst Seen (sym same.encoding) registered.here) root taken refused seeds packages seed loaded);
       limits = room_trans c.args.self.now c.load.new.self c.attempt.new.self
           (room_trans c.args.self.now (record c.args.self.now { encoding = c.register.new.self }) c.load.new.self
           (record { notes = c.register.ensures.limits; clauses = refl; learnt = refl }) c.load.ensures.limits) c.attempt.ensures.limits;

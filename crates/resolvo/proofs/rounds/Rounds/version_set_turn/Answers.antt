@@ -18,8 +18,7 @@ pub returns-then-has_any : goal.returns-then-has_any
 returns-then-has_any g c =
     record {
       is_true = c.in_ok-candidates.ensures.is_true;
-      rounds = c.requires.rounds;
-      still = c.requires.still;
+      rest = c.requires.rest;
       between = λ root done b.
           let u = g.D.Interner.universe c.args.provider.now in
           let v = c.args.version_set in
@@ -52,7 +51,7 @@ take_first-requires-clause-asked g c = λ k d below.
     let Has : List g.row.S.Denot → Type 0 = λ list. Contains list s in
     let Asked : g.row.N.Denot → Type 0 = λ n. Contains (notes_of c.ask.new.self).asked n in
     subst Asked (sym (matching_named u laws v s (sorted_matches u laws lawful.same_solvable v s (subst Has same (Contains-get_or all k d below)))))
-    (c.in_ok-ask.ensures.alone.asked.all (u.version_set_name v) refl)
+    (c.in_ok-ask.ensures.asked.alone.asked.all (u.version_set_name v) refl)
 
 pub take_first-requires-clause-none : goal.take_first-requires-clause-none
 take_first-requires-clause-none g c = λ m.
@@ -60,15 +59,14 @@ take_first-requires-clause-none g c = λ m.
     c.if-has_any.ensures (record {
       shared = m.shared;
       in_first = subst Has (c.deref-2.ensures.value ∙ sym c.deref.ensures.value) m.in_first;
-      in_second = subst Has (c.in_ok-ask.ensures.chosen ∙ sym c.solvables.ensures) m.in_second;
+      in_second = subst Has (c.in_ok-ask.ensures.asked.chosen ∙ sym c.solvables.ensures) m.in_second;
     })
 
 pub returns : goal.returns
 returns g c =
     record {
       is_true = c.take_first.ensures.is_true;
-      rounds = c.in_ok-take_first.ensures.rounds;
-      still = c.in_ok-take_first.ensures.still;
+      rest = c.in_ok-take_first.ensures.rest;
       between = λ root done b.
           let u = g.D.Interner.universe c.args.provider.now in
           let v = c.args.version_set in
@@ -94,17 +92,14 @@ returns g c =
             in_second = subst Has (sym c.solvables.ensures) m.in_second;
           })
           in
-          let alone = c.in_ok-ask.ensures.alone in
-          between_tried u root done v all old c.ask.new.self c.take_first.new.self _ b never match every c.in_ok-ask.ensures.chosen alone.exempt alone.asked.stays
+          let alone = c.in_ok-ask.ensures.asked.alone in
+          between_tried u root done v all old c.ask.new.self c.take_first.new.self _ b never match every c.in_ok-ask.ensures.asked.chosen alone.exempt alone.asked.stays
           (alone.asked.all (u.version_set_name v) refl)
           (c.in_ok-take_first.ensures.turned root b.taken b.refused seeds packages (λ s h. gathered_last (options u) done r s (match s h))
-          (c.in_ok-ask.ensures.standing root b.taken b.refused seeds packages own (standing_for u root done r b.taken b.refused old b.standing)));
+          (c.in_ok-ask.ensures.asked.standing root b.taken b.refused seeds packages own (standing_for u root done r b.taken b.refused old b.standing)));
       limits = room_trans c.args.self.now c.ask.new.self c.take_first.new.self c.ask.ensures.limits c.take_first.ensures.limits;
       refusal = tt;
     }
 
-pub take_first-requires-clause-still : goal.take_first-requires-clause-still
-take_first-requires-clause-still g c = c.in_ok-ask.ensures.still
-
-pub take_first-requires-clause-rounds : goal.take_first-requires-clause-rounds
-take_first-requires-clause-rounds g c = c.in_ok-ask.ensures.rounds
+pub take_first-requires-clause-rest : goal.take_first-requires-clause-rest
+take_first-requires-clause-rest g c = c.in_ok-ask.ensures.rest

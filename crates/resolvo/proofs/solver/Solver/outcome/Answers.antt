@@ -1,15 +1,14 @@
 use Rattle.std.proofs.Common.{List, ap, ◌∙◌, subst, sym, ◌≡◌, ℕ, refl, ◌<◌, length, arith, Vec, Global}
-use Rattle.std.specs.Prelude.{Ok, All, IfOk}
+use Rattle.std.specs.Prelude.{Ok, All}
 use Rattle.resolver_clause_store.specs.Outcomes.{IsCore}
 use Rattle.resolver_encoding.specs.SoFar.{IsReadSoFar}
 use Rattle.resolvo.specs.RoundStates.{IsDone, IsStuck, chosen_of, notes_of, IsBetween, IsSomeDone}
 use Rattle.resolvo.proofs.OutcomeLemmas.{OnOk-of, refusal_weaker, IfOk-both, soft_answer}
 use Rattle.resolvo.specs.declared.rounds.Found.TheVariants.{Answer, Contradiction}
-use Rattle.resolver_clause_store.specs.Universe.{Demands, Universe}
+use Rattle.resolver_clause_store.specs.Universe.{Universe}
 use Rattle.resolver_clause_store.specs.declared.Exhausted.TheVariants.{Memory}
-use Rattle.resolver_clause_store.specs.declared.SoftRequirement.{SoftRequirement}
-use Rattle.resolvo.specs.Answers.{IsSoftAnswer}
-use Rattle.resolvo.specs.Refusals.{IsRefusal}
+use Rattle.resolvo.specs.Answers.{AnswersFound}
+use Rattle.resolvo.specs.Refusals.{RefusesFound}
 use Rattle.resolvo.specs.Solvers.{exempt_in}
 use Rattle.resolvo.specs.declared.solver.UnsolvableOrCancelled.TheVariants.{Exhausted}
 use Rattle.resolvo.specs.declared.rounds.Found.{Found}
@@ -29,10 +28,7 @@ pub returns-in-Ok-Contradiction : goal.returns-in-Ok-Contradiction
 returns-in-Ok-Contradiction g c =
     record {
       sound = c.refuse.ensures.sound;
-      provider = c.refuse.ensures.provider;
-      limits = c.refuse.ensures.limits;
-      activity = c.refuse.ensures.activity;
-      rounds = c.refuse.ensures.rounds;
+      keeps = c.refuse.ensures.keeps;
       none = c.refuse.ensures.exempt ∙ c.requires.none;
       found = tt;
       answer = tt;
@@ -52,18 +48,14 @@ pub returns-in-Ok-Answer : goal.returns-in-Ok-Answer
 returns-in-Ok-Answer g c =
     record {
       sound = c.accept.ensures.sound;
-      provider = c.accept.ensures.provider;
-      limits = c.accept.ensures.limits;
-      activity = c.accept.ensures.activity;
-      rounds = c.accept.ensures.rounds;
+      keeps = c.accept.ensures.keeps;
       none = c.accept.ensures.none;
       found = OnOk-of (c.args.found ≡ Ok Answer) (c.in-Ok-Answer.is ∙ ap Ok c.in-Ok-Answer.field-0-is) c.accept.result;
       answer = let u = g.D.Interner.universe c.args.self.now.provider in
           let rounds = c.args.self.now.rounds in
           let exempt = exempt_in c.accept.new.self in
           IfOk-both (λ chosen. chosen.items ≡ chosen_of rounds)
-          (λ chosen. (root : Demands) (soft : List (SoftRequirement g.row.D-SolvableId.Denot)) → IfOk c.args.found (IsDone u root soft rounds) →
-          IsSoftAnswer u root soft chosen.items exempt)
+          (λ chosen. AnswersFound u rounds c.args.found chosen.items exempt)
           (exempt ≡ (notes_of rounds).exempt)
           (λ chosen are free root soft done. let it : IsDone u root soft rounds c.in-Ok-Answer.field-0 =
           IfOk-at_ok (IsDone u root soft rounds) c.in-Ok-Answer.is done in
@@ -73,8 +65,7 @@ returns-in-Ok-Answer g c =
       refusal = let u = g.D.Interner.universe c.args.self.now.provider in
           let rounds = c.args.self.now.rounds in
           IfErr-weaker c.accept.result (λ e. e ≡ Exhausted Memory)
-          (λ e. (root : Demands) (soft : List (SoftRequirement g.row.D-SolvableId.Denot)) → IfOk c.args.found (IsDone u root soft rounds) →
-          IsRefusal u (g.D.DependencyProvider.may_cancel c.args.self.now.provider) root (IsStuck rounds) e)
+          (λ e. RefusesFound u (g.D.DependencyProvider.may_cancel c.args.self.now.provider) rounds c.args.found e)
           (λ e is root soft done. rw is tt) c.accept.ensures.memory;
     }
 
@@ -82,10 +73,7 @@ pub returns-in-Err-Cancelled : goal.returns-in-Err-Cancelled
 returns-in-Err-Cancelled g c =
     record {
       sound = c.requires.sound;
-      provider = refl;
-      limits = record { variables = refl; clauses = refl; learnt = refl };
-      activity = refl;
-      rounds = refl;
+      keeps = record { provider = refl; limits = record { variables = refl; clauses = refl; learnt = refl }; activity = refl; rounds = refl };
       none = c.requires.none;
       found = tt;
       answer = tt;
@@ -96,10 +84,7 @@ pub returns-in-Err-Exhausted : goal.returns-in-Err-Exhausted
 returns-in-Err-Exhausted g c =
     record {
       sound = c.requires.sound;
-      provider = refl;
-      limits = record { variables = refl; clauses = refl; learnt = refl };
-      activity = refl;
-      rounds = refl;
+      keeps = record { provider = refl; limits = record { variables = refl; clauses = refl; learnt = refl }; activity = refl; rounds = refl };
       none = c.requires.none;
       found = tt;
       answer = tt;
@@ -110,10 +95,7 @@ pub returns-in-Ok-Refused : goal.returns-in-Ok-Refused
 returns-in-Ok-Refused g c =
     record {
       sound = c.refuse-in-Ok-Refused.ensures.sound;
-      provider = c.refuse-in-Ok-Refused.ensures.provider;
-      limits = c.refuse-in-Ok-Refused.ensures.limits;
-      activity = c.refuse-in-Ok-Refused.ensures.activity;
-      rounds = c.refuse-in-Ok-Refused.ensures.rounds;
+      keeps = c.refuse-in-Ok-Refused.ensures.keeps;
       none = c.refuse-in-Ok-Refused.ensures.exempt ∙ c.requires.none;
       found = tt;
       answer = tt;

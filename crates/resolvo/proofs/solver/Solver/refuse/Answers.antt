@@ -8,10 +8,7 @@ pub returns-in-Err-Cancelled : goal.returns-in-Err-Cancelled
 returns-in-Err-Cancelled g c =
     record {
       sound = record { true_answers = c.explain.ensures.is_true; fits = c.requires.sound.fits };
-      provider = refl;
-      limits = record { variables = refl; clauses = refl; learnt = refl };
-      activity = refl;
-      rounds = refl;
+      keeps = record { provider = refl; limits = record { variables = refl; clauses = refl; learnt = refl }; activity = refl; rounds = refl };
       exempt = refl;
       refusal = λ root encoding core. rw c.in-Err-Cancelled.field-0-is at (rw c.in-Err-Cancelled.is at c.explain.ensures.refusal);
     }
@@ -20,10 +17,7 @@ pub returns-in-Err-Exhausted : goal.returns-in-Err-Exhausted
 returns-in-Err-Exhausted g c =
     record {
       sound = record { true_answers = c.explain.ensures.is_true; fits = c.requires.sound.fits };
-      provider = refl;
-      limits = record { variables = refl; clauses = refl; learnt = refl };
-      activity = refl;
-      rounds = refl;
+      keeps = record { provider = refl; limits = record { variables = refl; clauses = refl; learnt = refl }; activity = refl; rounds = refl };
       exempt = refl;
       refusal = λ root encoding core.
           shortage_of_memory _ _ (rw c.in-Err-Exhausted.field-0-is at (rw c.in-Err-Exhausted.is at c.explain.ensures.refusal));
@@ -33,10 +27,7 @@ pub returns-in-Ok : goal.returns-in-Ok
 returns-in-Ok g c =
     record {
       sound = record { true_answers = c.explain.ensures.is_true; fits = c.requires.sound.fits };
-      provider = refl;
-      limits = record { variables = refl; clauses = refl; learnt = refl };
-      activity = refl;
-      rounds = refl;
+      keeps = record { provider = refl; limits = record { variables = refl; clauses = refl; learnt = refl }; activity = refl; rounds = refl };
       exempt = refl;
       refusal = λ root encoding core.
           (rw c.in-Ok.is at c.explain.ensures.explained) root (notes_of c.args.self.now.rounds) (sym c.kinds-kinds.ensures) encoding core;

@@ -1,16 +1,14 @@
 use Rattle.std.proofs.Common.{List, refl, subst, sym, ◌≡◌, ◌++◌}
-use Rattle.std.specs.Prelude.{IfOk, Ok, Option, map, IfSome}
-use Rattle.resolver_clause_store.specs.declared.SoftRequirement.{SoftRequirement}
+use Rattle.std.specs.Prelude.{Ok, Option, map, IfSome}
 use Rattle.resolver_clause_store.specs.declared.SoftRequirement.TheVariants.{Solvable}
-use Rattle.resolver_clause_store.specs.Universe.{Demands}
-use Rattle.resolvo.specs.Answers.{IsSoftAnswer}
-use Rattle.resolvo.specs.Problems.{AreItems, demands_in, list_in, soft_in}
-use Rattle.resolvo.specs.Refusals.{IsRefusal}
+use Rattle.resolvo.specs.Answers.{AnswersFound, IsAnswerTo}
+use Rattle.resolvo.specs.Problems.{AreItems, demands_in, list_in}
+use Rattle.resolvo.specs.Refusals.{IsRefusal, RefusesFound}
 use Rattle.resolvo.specs.RoundStates.{IsDone, IsFresh, IsStuck, IsSomeDone, KeepsRoom}
 use Rattle.resolvo.specs.declared.rounds.Rounds.{Rounds}
 use Rattle.resolvo.specs.Solvers.{IsAtLimit, exempt_in}
 use Rattle.resolvo.specs.declared.rounds.Found.TheVariants.{Answer}
-use Rattle.resolvo.proofs.OutcomeLemmas.{IfOk-both, at_limit, refusal_weaker, same_demands, soft_given}
+use Rattle.resolvo.proofs.OutcomeLemmas.{IfOk-both, at_limit, refusal_weaker, soft_given}
 use Rattle.std.proofs.lemmas.Result.{IfOk-weaker, IfOk-at_ok, IfErr-weaker}
 use Rattle.std.specs.Iterator.{IsFinite}
 use Rattle.resolvo.proofs.solver.Solver.solve.Goals as goal
@@ -49,24 +47,24 @@ pub outcome-answer-requires-clause-done : goal.outcome-answer-requires-clause-do
 outcome-answer-requires-clause-done g c =
     let u = g.D.Interner.universe c.args.self.now.provider in
     let rounds = c.find-found.new.self in
-    let list = c.listed_soft_requirements.result.now in
-    let given : Demands = record { requirements = c.root_requirements.result.now; constraints = c.root_constraints.result.now } in
+    let root = demands_in c.args.problem in
+    let list = list_in c.args.problem in
     let w = soft_given (λ xs. AreItems g.S.Iterator.next_gives c.take-soft.result xs) (λ f. f ≡ Answer) (λ xs f.
-    IsDone u given (map Solvable xs ++ list) rounds f) c.find-found.result c.find-found.ensures.done in
-    IfOk-weaker c.find-found.result (IsDone u given (map Solvable w.0 ++ list) rounds) (IsSomeDone u rounds)
-    (λ f done. record { root = given; soft = map Solvable w.0 ++ list; done = done }) w.2
+    IsDone u root (map Solvable xs ++ list) rounds f) c.find-found.result c.find-found.ensures.done in
+    IfOk-weaker c.find-found.result (IsDone u root (map Solvable w.0 ++ list) rounds) (IsSomeDone u rounds)
+    (λ f done. record { root = root; soft = map Solvable w.0 ++ list; done = done }) w.2
 
 pub returns-clause-sound : goal.returns-clause-sound
 returns-clause-sound g c = let it = c.outcome-answer.ensures.sound in record { true_answers = it.true_answers; fits = it.fits }
 
 pub returns-clause-provider : goal.returns-clause-provider
-returns-clause-provider g c = c.outcome-answer.ensures.provider
+returns-clause-provider g c = c.outcome-answer.ensures.keeps.provider
 
 pub returns-clause-limits : goal.returns-clause-limits
-returns-clause-limits g c = let it = c.outcome-answer.ensures.limits in record { variables = it.variables; clauses = it.clauses; learnt = it.learnt }
+returns-clause-limits g c = let it = c.outcome-answer.ensures.keeps.limits in record { variables = it.variables; clauses = it.clauses; learnt = it.learnt }
 
 pub returns-clause-activity : goal.returns-clause-activity
-returns-clause-activity g c = c.outcome-answer.ensures.activity
+returns-clause-activity g c = c.outcome-answer.ensures.keeps.activity
 
 pub returns-clause-none : goal.returns-clause-none
 returns-clause-none g c = c.outcome-answer.ensures.none
@@ -77,27 +75,18 @@ returns-clause-answer g c =
     let rounds = c.find-found.new.self in
     let new = c.outcome-answer.new.self in
     let root = demands_in c.args.problem in
-    let list = c.listed_soft_requirements.result.now in
-    let given : Demands = record { requirements = c.root_requirements.result.now; constraints = c.root_constraints.result.now } in
-    let same : given ≡ root = same_demands root c.root_requirements.result.now c.root_constraints.result.now c.root_requirements.ensures
-    c.root_constraints.ensures in
+    let list = list_in c.args.problem in
     let Gives : Option g.row.S.Denot → List g.row.D-SolvableId.Denot → Type 0 = λ o xs. AreItems g.S.Iterator.next_gives o xs in
-    let w = soft_given (Gives c.take-soft.result) (λ f. f ≡ Answer) (λ xs f. IsDone u given (map Solvable xs ++ list) rounds f) c.find-found.result
+    let w = soft_given (Gives c.take-soft.result) (λ f. f ≡ Answer) (λ xs f. IsDone u root (map Solvable xs ++ list) rounds f) c.find-found.result
     c.find-found.ensures.done in
-    let Done : Demands → Type 0 = λ d. IfOk c.find-found.result (IsDone u d (map Solvable w.0 ++ list) rounds) in
-    let done : Done root = subst Done same w.2 in
-    IfOk-both (λ chosen. (d : Demands) (xs : List (SoftRequirement g.row.D-SolvableId.Denot)) →
-    IfOk c.find-found.result (IsDone u d xs rounds) → IsSoftAnswer u d xs chosen.items (exempt_in new))
-    (λ chosen. (xs : List g.row.D-SolvableId.Denot) × Gives (soft_in c.args.problem) xs ×
-    IsSoftAnswer u root (map Solvable xs ++ list_in c.args.problem) chosen.items (exempt_in new))
+    IfOk-both (λ chosen. AnswersFound u rounds c.find-found.result chosen.items (exempt_in new))
+    (λ chosen. IsAnswerTo u g.S.Iterator.next_gives c.args.problem chosen.items (exempt_in new))
     (c.find-found.result ≡ Ok Answer)
     (λ chosen h is.
-    let Given : Option g.row.S.Denot → Type 0 = λ o. Gives o w.0 in
-    let Answered : List (SoftRequirement g.row.D-SolvableId.Denot) → Type 0 =
-    λ more. IsSoftAnswer u root (map Solvable w.0 ++ more) chosen.items (exempt_in new) in (
+    let Given : Option g.row.S.Denot → Type 0 = λ o. Gives o w.0 in (
       w.0,
       subst Given c.take-soft.ensures.value (IfOk-at_ok (λ f. f ≡ Answer → Gives c.take-soft.result w.0) is w.1 refl),
-      subst Answered c.listed_soft_requirements.ensures (h root (map Solvable w.0 ++ list) done),
+      h root (map Solvable w.0 ++ list) w.2,
     ))
     c.outcome-answer.result c.outcome-answer.ensures.answer c.outcome-answer.ensures.found
 
@@ -108,24 +97,18 @@ returns-clause-refusal g c =
     let rounds = c.find-found.new.self in
     let new = c.outcome-answer.new.self in
     let root = demands_in c.args.problem in
-    let list = c.listed_soft_requirements.result.now in
-    let given : Demands = record { requirements = c.root_requirements.result.now; constraints = c.root_constraints.result.now } in
-    let same : given ≡ root = same_demands root c.root_requirements.result.now c.root_constraints.result.now c.root_requirements.ensures
-    c.root_constraints.ensures in
+    let list = list_in c.args.problem in
     let Gives : Option g.row.S.Denot → List g.row.D-SolvableId.Denot → Type 0 = λ o xs. AreItems g.S.Iterator.next_gives o xs in
-    let w = soft_given (Gives c.take-soft.result) (λ f. f ≡ Answer) (λ xs f. IsDone u given (map Solvable xs ++ list) rounds f) c.find-found.result
+    let w = soft_given (Gives c.take-soft.result) (λ f. f ≡ Answer) (λ xs f. IsDone u root (map Solvable xs ++ list) rounds f) c.find-found.result
     c.find-found.ensures.done in
-    let Done : Demands → Type 0 = λ d. IfOk c.find-found.result (IsDone u d (map Solvable w.0 ++ list) rounds) in
-    let done : Done root = subst Done same w.2 in
     let made = c.new-rounds.ensures in
-    let limits = c.outcome-answer.ensures.limits in
+    let limits = c.outcome-answer.ensures.keeps.limits in
     let Room : Rounds g.row.D-NameId.Denot g.row.D-SolvableId.Denot → Type 0 = λ r. KeepsRoom r rounds in
     let room : Room c.new-rounds.result = subst Room c.replace.ensures.after c.find-found.ensures.limits in
-    IfErr-weaker c.outcome-answer.result (λ e. (d : Demands) (xs : List (SoftRequirement g.row.D-SolvableId.Denot)) →
-    IfOk c.find-found.result (IsDone u d xs rounds) → IsRefusal u may_cancel d (IsStuck rounds) e)
+    IfErr-weaker c.outcome-answer.result (λ e. RefusesFound u may_cancel rounds c.find-found.result e)
     (λ e. IsRefusal u may_cancel root (IsAtLimit new) e)
     (λ e h. refusal_weaker u may_cancel root (IsStuck rounds) (IsAtLimit new)
     (at_limit c.new-rounds.result rounds c.args.self.now new room made.variables made.clauses made.all_clauses made.learnt
-    (record { variables = limits.variables; clauses = limits.clauses; learnt = limits.learnt }) c.outcome-answer.ensures.rounds)
-    e (h root (map Solvable w.0 ++ list) done))
+    (record { variables = limits.variables; clauses = limits.clauses; learnt = limits.learnt }) c.outcome-answer.ensures.keeps.rounds)
+    e (h root (map Solvable w.0 ++ list) w.2))
     c.outcome-answer.ensures.refusal

@@ -1,6 +1,7 @@
 use Rattle.std.proofs.Common.{rules}
 use Rattle.resolve.specs.Packages.{preference}
-use Rattle.resolve.specs.SortingLemmas.{sorted_by-from_clause, preference-total, preference-tied}
+use Rattle.resolve.specs.PreferenceLemmas.{preference-total, preference-tied}
+use Rattle.resolver_clause_store.specs.SortingLemmas.{sorted_by-from_clause}
 use Rattle.resolve.proofs.catalog.tables.PackageTable.sort.Goals as goal
 
 pub returns : goal.returns
