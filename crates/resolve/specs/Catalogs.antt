@@ -14,7 +14,7 @@ use Rattle.resolve.specs.declared.ids.Range.TheVariants.{All}
 use Rattle.resolve.specs.declared.ids.VersionSet.{VersionSet}
 use Rattle.resolve.specs.declared.ids.Version.{Version}
 use Rattle.resolve.specs.Solvables.{Solvable}
-use Rattle.resolve.specs.Listings.{Package as Listing}
+use Rattle.resolve.specs.Listings.{ListedPackage as Listing}
 use Rattle.resolve.specs.declared.catalog.Catalog.{Catalog}
 use Rattle.resolve.specs.Ranges.{range_takes, range_text}
 use Rattle.resolve.specs.Versions.{versions_text}
@@ -34,9 +34,9 @@ abbrev pub members_of : Option (Vec VersionSetId Global) → List VersionSetId
 members_of None = []
 members_of (Some members) = members.items
 
-abbrev pub text_of : Option (String Global) → List ℕ
-text_of None = []
-text_of (Some text) = string_bytes text
+abbrev pub optional_text : Option (String Global) → List ℕ
+optional_text None = []
+optional_text (Some text) = string_bytes text
 
 -- the record of a package; if there is none, it lists nothing
 abbrev pub listing_of : Option Listing → Package SolvableId
@@ -69,7 +69,7 @@ rising_versions versions xs = sorted_by nat_cmp (map (version_at versions) xs)
 -- the name of the first solvable, and the versions of all of them
 abbrev pub merged_text_of : List (String Global) → List Version → List SolvableId → List ℕ
 merged_text_of names versions [] = []
-merged_text_of names versions (s ∷ others) = text_of (slice_get names (name_at versions s).0) ++ codes " " ++
+merged_text_of names versions (s ∷ others) = optional_text (slice_get names (name_at versions s).0) ++ codes " " ++
     versions_text (rising_versions versions (s ∷ others))
 
 abbrev pub same_solvable_ids : SolvableId → SolvableId → Bool
@@ -83,9 +83,9 @@ catalog_universe it = record {
   condition = λ i. condition_at it.conditions.conditions.items i;
   condition_rank = λ i. i.0;
   same_solvable = same_solvable_ids;
-  name_text = λ n. text_of (slice_get it.names.keys n.0);
+  name_text = λ n. optional_text (slice_get it.names.keys n.0);
   version_set_text = λ v. range_text (version_set_at it.version_sets.keys v).range;
-  string_text = λ r. text_of (slice_get it.strings.keys r.0);
+  string_text = λ r. optional_text (slice_get it.strings.keys r.0);
   merged_text = λ xs. merged_text_of it.names.keys it.packages.versions.keys xs;
   package_named = λ n. listing_of (slice_get it.packages.packages n.0);
   needs = λ s. needs_of_solvable (slice_get it.packages.solvables s.0);

@@ -12,7 +12,7 @@ ghost use Rattle.resolve.specs.LineWords.{after_word, from_word};
 ghost use Rattle.resolve.specs.Spelling.{Names, Wants, without_end};
 ghost use Rattle.resolve.specs.Unions.{ReadsUnion, RefusesUnion, wanted_of};
 ghost use Rattle.resolve.specs.WordsView.{line_left, words_left};
-ghost use Rattle.resolve.specs.StatementsSaid.{IsReasoned, Reads, ReadsAs, ReadsIf, ReadsNeed, Refuses, RefusesIf, RefusesNeed};
+ghost use Rattle.resolve.specs.StatementsSaid.{IsSolvableWithReason, Reads, ReadsAs, ReadsIf, ReadsNeed, Refuses, RefusesIf, RefusesNeed};
 ghost use Rattle.resolve.specs.StatementsSaid.{StatesAs, UnionEnds, named_of, spelled};
 
 use crate::condition::{ConditionStep, parse_condition};
@@ -312,8 +312,8 @@ fn parse_exclude(words: Words<'_>) -> Option<Statement<'_>>
 
 /// Parses a solvable, and the rest of the line as a reason.
 fn parse_reasoned(mut words: Words<'_>) -> Option<(SolvableText<'_>, &str)>
-    ensures { MatchOption result ((it : Named) (reason : List ℕ) → IsReasoned (line_left words.entry) it reason → ⊥)
-        (λ parts. IsReasoned (line_left words.entry) (named_of parts.0) parts.1.now) }
+    ensures { MatchOption result ((it : Named) (reason : List ℕ) → IsSolvableWithReason (line_left words.entry) it reason → ⊥)
+        (λ parts. IsSolvableWithReason (line_left words.entry) (named_of parts.0) parts.1.now) }
 {
     let Some(solvable) = next_solvable(&mut words) else {
         return None;

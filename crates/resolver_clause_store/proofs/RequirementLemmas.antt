@@ -7,7 +7,7 @@ use Rattle.std.proofs.lemmas.List.Elements.{Contains-append_cases}
 use Rattle.std.proofs.lemmas.List.Folds.{Any-from_list_any}
 use Rattle.std.proofs.lemmas.List.Sorted.{Contains-permutation, IsPermutation-sym}
 use Rattle.resolver_clause_store.specs.Laws.{IsIdentity, HasLawfulPackages}
-use Rattle.resolver_clause_store.specs.Lists.{IsCut, cut_none, cut_left, cut_right, without_repeats, moved_to_front}
+use Rattle.resolver_clause_store.specs.Lists.{IsInterleaving, interleave_none, interleave_left, interleave_right, without_repeats, moved_to_front}
 use Rattle.resolver_clause_store.specs.Universe.{Universe}
 use Rattle.resolver_clause_store.specs.Candidates.{matching, others, favored_first, sorted_candidates, sorted_in_order, requirement_candidates, version_sets}
 use Rattle.resolver_clause_store.specs.declared.ids.VersionSetId.{VersionSetId}
@@ -37,18 +37,18 @@ Contains-moved_to_front {X} same identity y xs x h =
     (cases_Bool (list_any (λ z. same z y) xs))
 
 -- each element of a part of a cut list is in the list
-pub Contains-cut_left : {X : Type 0} {xs ys zs : List X} → IsCut xs ys zs → (x : X) → Contains ys x → Contains xs x
-Contains-cut_left cut_none x h = h
-Contains-cut_left {X} (cut_left {x = y} {xs = xs} {ys = ys} rest) x h = ⊎_elim
+pub Contains-cut_left : {X : Type 0} {xs ys zs : List X} → IsInterleaving xs ys zs → (x : X) → Contains ys x → Contains xs x
+Contains-cut_left interleave_none x h = h
+Contains-cut_left {X} (interleave_left {x = y} {xs = xs} {ys = ys} rest) x h = ⊎_elim
     (λ is. let P : X → Type 0 = λ q. Contains (y ∷ xs) q in subst P is (Contains-here y xs))
     (λ t. Contains-there y xs x (Contains-cut_left rest x t))
     (Contains-cons_cases y ys x h)
-Contains-cut_left (cut_right {x = y} {xs = xs} rest) x h = Contains-there y xs x (Contains-cut_left rest x h)
+Contains-cut_left (interleave_right {x = y} {xs = xs} rest) x h = Contains-there y xs x (Contains-cut_left rest x h)
 
-pub Contains-cut_right : {X : Type 0} {xs ys zs : List X} → IsCut xs ys zs → (x : X) → Contains zs x → Contains xs x
-Contains-cut_right cut_none x h = h
-Contains-cut_right (cut_left {x = y} {xs = xs} rest) x h = Contains-there y xs x (Contains-cut_right rest x h)
-Contains-cut_right {X} (cut_right {x = y} {xs = xs} {zs = zs} rest) x h = ⊎_elim
+pub Contains-cut_right : {X : Type 0} {xs ys zs : List X} → IsInterleaving xs ys zs → (x : X) → Contains zs x → Contains xs x
+Contains-cut_right interleave_none x h = h
+Contains-cut_right (interleave_left {x = y} {xs = xs} rest) x h = Contains-there y xs x (Contains-cut_right rest x h)
+Contains-cut_right {X} (interleave_right {x = y} {xs = xs} {zs = zs} rest) x h = ⊎_elim
     (λ is. let P : X → Type 0 = λ q. Contains (y ∷ xs) q in subst P is (Contains-here y xs))
     (λ t. Contains-there y xs x (Contains-cut_right rest x t))
     (Contains-cons_cases y zs x h)

@@ -103,7 +103,7 @@ module _ {N S : Type 0} where
   learnt_limit_of r = r.learnt_limit
 
   -- the limits are the same
-  pub record KeepsRoom (old new : Rounds N S) : Type 0 where
+  pub record KeepsRoundLimits (old new : Rounds N S) : Type 0 where
     pub notes : KeepsLimits (notes_of old) (notes_of new)
     pub clauses : new.clause_limit ≡ old.clause_limit
     pub learnt : new.learnt_limit ≡ old.learnt_limit
@@ -263,7 +263,7 @@ module _ {N S : Type 0} where
   KeepsEncoding old new = new.encoding ≡ old.encoding
 
   -- the same, with the length of the trail noted; the first `from` of the chosen solvables were chosen before
-  pub record IsFollowing (old new : Rounds N S) (from : ℕ) : Type 0 where
+  pub record IsFollowingFrom (old new : Rounds N S) (from : ℕ) : Type 0 where
     pub encoding : new.encoding ≡ old.encoding
     pub consistent : IsConsistent new.search
     pub loaded : IsUpToDate new

@@ -41,7 +41,7 @@ module _ {D C N S : Type 0} where
     pub learnt : s.learnt_limit ≡ limit
 
   -- the limits are the same
-  pub record KeepsLimits (old new : Solver D C N S) : Type 0 where
+  pub record KeepsSolverLimits (old new : Solver D C N S) : Type 0 where
     pub variables : new.variable_limit ≡ old.variable_limit
     pub clauses : new.clause_limit ≡ old.clause_limit
     pub learnt : new.learnt_limit ≡ old.learnt_limit
@@ -53,7 +53,7 @@ module _ {D C N S : Type 0} where
   -- the provider, the limits, the parameters and the state of the last search are the same
   pub record IsSameSolver (old new : Solver D C N S) : Type 0 where
     pub provider : provider_in new ≡ provider_in old
-    pub limits : KeepsLimits old new
+    pub limits : KeepsSolverLimits old new
     pub activity : KeepsActivity old new
     pub rounds : rounds_in new ≡ rounds_in old
 

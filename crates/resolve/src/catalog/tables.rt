@@ -2,9 +2,9 @@
 
 ghost use Rattle.std.specs.Prelude.{◌≡◌, ◌<◌, ◌≤◌, ◌++◌, ◌∷◌, [], length, IfOk, IfErr, IfNone, IfSome, MatchBool, MatchOption, OnErr, OnOk};
 ghost use Rattle.std.proofs.Props.{props};
-ghost use Rattle.resolve.specs.Additions.{IsShortage};
+ghost use Rattle.resolve.specs.Additions.{IsTableShortage};
 ghost use Rattle.resolve.specs.Listings.{no_versions};
-ghost use Rattle.resolve.specs.Packages.{ArePackagesOf, IsConstrained, IsDeclarationRefused, IsDeclared, IsExcluded, IsExclusionRefused, IsFavorRefused};
+ghost use Rattle.resolve.specs.Packages.{ArePackagesOf, BecomesExcluded, IsConstrained, IsDeclarationRefused, IsDeclared, IsExclusionRefused, IsFavorRefused};
 ghost use Rattle.resolve.specs.Packages.{IsFavored, IsLockRefused, IsLocked, IsMadeUnknown, IsReasonRefused, IsRequired, IsVersionOf};
 ghost use Rattle.resolve.specs.Packages.{IsWithoutPackage, name_at, version_at, preference};
 ghost use Rattle.resolver_clause_store.specs.Sorting.{sorted_by};
@@ -101,7 +101,7 @@ impl PackageTable {
             self.new.packages (record { name = name; number = number }))
             (IsDeclarationRefused self.old.versions.keys self.new.versions.keys self.old.solvables self.new.solvables self.old.packages
             self.new.packages (record { name = name; number = number }))) }
-        ensures refusal { IfErr result (IsShortage (length self.old.versions.keys)) }
+        ensures refusal { IfErr result (IsTableShortage (length self.old.versions.keys)) }
     {
         let version = Version { name, number };
         let package = name.0 as usize;
@@ -222,7 +222,7 @@ impl PackageTable {
     /// Excludes a solvable for a reason. Returns `false` if it is excluded already, or does not exist.
     pub fn exclude(&mut self, solvable: SolvableId, reason: StringId) -> Result<bool, Exhausted>
         ensures excluded { IfOk result (λ is_new.
-            MatchBool is_new (IsExcluded self.old.versions.keys self.old.solvables self.new.solvables self.old.packages
+            MatchBool is_new (BecomesExcluded self.old.versions.keys self.old.solvables self.new.solvables self.old.packages
             self.new.packages solvable reason)
             (IsExclusionRefused self.old.versions.keys self.old.solvables self.new.solvables self.old.packages self.new.packages
             solvable)) }
@@ -273,7 +273,7 @@ impl ConditionTable {
     pub fn add_on(&mut self, version_set: VersionSetId) -> Result<ConditionId, Exhausted>
         ensures id { IfOk result (λ id. id.0 ≡ length self.old.conditions.items) }
         ensures added { OnOk result (self.new.conditions.items ≡ self.old.conditions.items ++ Condition.Requirement version_set ∷ []) }
-        ensures refusal { IfErr result (IsShortage (length self.old.conditions.items)) }
+        ensures refusal { IfErr result (IsTableShortage (length self.old.conditions.items)) }
     {
         let id = ConditionId(id_of(self.conditions.len())?);
         self.conditions.push(Condition::Requirement(version_set))?;
@@ -290,7 +290,7 @@ impl ConditionTable {
         ensures joined { IfOk result (λ made.
             MatchOption made (IsPartMissing self.old.conditions.items self.new.conditions.items left right)
             (IsJoined self.old.conditions.items self.new.conditions.items operator left right)) }
-        ensures refusal { IfErr result (IsShortage (length self.old.conditions.items)) }
+        ensures refusal { IfErr result (IsTableShortage (length self.old.conditions.items)) }
     {
         let count = self.conditions.len();
         if left.0 as usize >= count || right.0 as usize >= count {
