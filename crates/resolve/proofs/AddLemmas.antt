@@ -346,5 +346,5 @@ module _ (it : Statement) (said : Said) (union : Vec Spec Global) (condition : V
       (h.0, h.1, needed h.0 h.2)
 
 pub adds_as : {E : Type 0} (result : Result Bool E) (old new : Request) (said other : Said) → said ≡ other →
-    IfOk result (λ added. AddsStatement added old new other) → IfOk result (λ added. AddsStatement added old new said)
-adds_as result old new said other e h = let P : Said → Type 0 = λ x. IfOk result (λ added. AddsStatement added old new x) in subst P (sym e) h
+    IfOk result (AddsStatement old new other) → IfOk result (AddsStatement old new said)
+adds_as result old new said other e h = let P : Said → Type 0 = λ x. IfOk result (AddsStatement old new x) in subst P (sym e) h

@@ -189,6 +189,6 @@ bad_alike input line a b h k none =
     none_from (after_one input b)
     (passed input b ∙ sym (λ i. passes input (keywords i) (named i)) ∙ sym (passed input a) ∙ ap is_some none)
 
-pub not_added : (added : Bool) (old new : Request) (said : Said) → added ≡ false → AddsStatement added old new said → after_one (input_in old) said ≡ None
+pub not_added : (added : Bool) (old new : Request) (said : Said) → added ≡ false → AddsStatement old new said added → after_one (input_in old) said ≡ None
 not_added true old new said e h = absurd cc
 not_added false old new said e h = h

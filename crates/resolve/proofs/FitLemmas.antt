@@ -258,19 +258,19 @@ no_tables_fit = record {
 }
 
 -- a statement that a method added gives tables
-pub after_added : (b : Bool) (old new : Request) (said : Said) → AreTables (tables_in old.catalog) → AddsStatement b old new said → b ≡ true →
+pub after_added : (b : Bool) (old new : Request) (said : Said) → AreTables (tables_in old.catalog) → AddsStatement old new said b → b ≡ true →
     AreTables (tables_in new.catalog)
 after_added true old new said tables adds is = added_tables (input_in old) new.catalog (input_in new) said refl adds tables
 after_added false old new said tables adds is = absurd cc
 
 pub after_call : {E : Type 0} (result : Result Bool E) (old new : Request) (said : Said) → AreTables (tables_in old.catalog) →
-    IfOk result (λ added. AddsStatement added old new said) → IfOk result (λ added. added ≡ true → AreTables (tables_in new.catalog))
-after_call result old new said tables h = IfOk-weaker result (λ added. AddsStatement added old new said) (λ added. added ≡ true →
+    IfOk result (AddsStatement old new said) → IfOk result (λ added. added ≡ true → AreTables (tables_in new.catalog))
+after_call result old new said tables h = IfOk-weaker result (AddsStatement old new said) (λ added. added ≡ true →
     AreTables (tables_in new.catalog)) (λ b adds is. after_added b old new said tables adds is) h
 
 -- whether it was added or refused, with the input as it was
 pub after_either : {E : Type 0} (result : Result Bool E) (old new : Request) (said : Said) → AreTables (tables_in old.catalog) →
-    IfOk result (λ added. AddsStatement added old new said) → IfOk result (λ added. added ≡ false → input_in new ≡ input_in old) →
+    IfOk result (AddsStatement old new said) → IfOk result (λ added. added ≡ false → input_in new ≡ input_in old) →
     OnOk result (AreTables (tables_in new.catalog))
 after_either (Ok true) old new said tables adds refused = after_added true old new said tables adds refl
 after_either (Ok false) old new said tables adds refused =

@@ -1,6 +1,6 @@
 -- The universe of a catalog.
 use Rattle.std.specs.Prelude.{ℕ, Bool, not, ◌==◌, List, [], ◌∷◌, ◌++◌, Option, Some, None, slice_get, filter, map, codes, string_bytes, String}
-use Rattle.std.specs.Prelude.{Vec}
+use Rattle.std.specs.Prelude.{MatchBool, Vec}
 use Rattle.std.specs.Global.{Global}
 use Rattle.std.specs.Ordering.{nat_cmp}
 use Rattle.resolver_clause_store.specs.Universe.{Universe, Package, Needs, known, unknown, hint_none}
@@ -16,10 +16,11 @@ use Rattle.resolve.specs.declared.ids.Version.{Version}
 use Rattle.resolve.specs.Solvables.{Solvable}
 use Rattle.resolve.specs.Listings.{ListedPackage as Listing}
 use Rattle.resolve.specs.declared.catalog.Catalog.{Catalog}
+use Rattle.resolve.specs.declared.catalog.tables.PackageTable.{PackageTable}
 use Rattle.resolve.specs.Ranges.{range_takes, range_text}
 use Rattle.resolve.specs.Versions.{versions_text}
 use Rattle.resolver_clause_store.specs.Sorting.{sorted_by}
-use Rattle.resolve.specs.Packages.{name_at, version_at, preference}
+use Rattle.resolve.specs.Packages.{BecomesExcluded, IsDeclarationRefused, IsDeclared, IsExclusionRefused, name_at, version_at, preference}
 use Rattle.resolve.specs.Conditions.{condition_at}
 
 -- a version set; if there is none, all versions of the first package
@@ -93,6 +94,23 @@ catalog_universe it = record {
   others_of = λ xs v. left_out it.packages.versions.keys (version_set_at it.version_sets.keys v).range xs;
   sorted_of = sorted_by (preference it.packages.versions.keys);
 }
+
+-- the version was declared, or nothing changed
+abbrev pub DeclaresVersion : PackageTable → PackageTable → Version → Bool → Type 0
+DeclaresVersion old new version is_new = MatchBool is_new
+    (IsDeclared old.versions.keys new.versions.keys old.solvables new.solvables old.packages new.packages version)
+    (IsDeclarationRefused old.versions.keys new.versions.keys old.solvables new.solvables old.packages new.packages version)
+
+-- the solvable was excluded for the reason, or nothing changed
+abbrev pub ExcludesSolvable : PackageTable → PackageTable → SolvableId → StringId → Bool → Type 0
+ExcludesSolvable old new s reason is_new = MatchBool is_new
+    (BecomesExcluded old.versions.keys old.solvables new.solvables old.packages new.packages s reason)
+    (IsExclusionRefused old.versions.keys old.solvables new.solvables old.packages new.packages s)
+
+-- the package of the solvable was changed in one way, or the change was refused in the other
+abbrev pub ChangesPackage : (Done Refused : List Version → List Listing → List Listing → SolvableId → Type 0) → PackageTable → PackageTable → SolvableId → Bool → Type 0
+ChangesPackage Done Refused old new s is_done =
+    MatchBool is_done (Done old.versions.keys old.packages new.packages s) (Refused old.versions.keys old.packages new.packages s)
 
 -- the tables of a catalog
 abbrev pub names_in : Catalog → List (List ℕ)
