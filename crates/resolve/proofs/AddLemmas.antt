@@ -15,10 +15,11 @@ use Rattle.resolve.specs.declared.ids.NameId.{NameId}
 use Rattle.resolve.specs.declared.ids.SolvableId.{SolvableId}
 use Rattle.resolve.specs.declared.ids.Version.{Version}
 use Rattle.resolve.specs.Catalogs.{Tables}
-use Rattle.resolve.specs.Listings.{Package, no_versions, with_candidate, with_excluded}
-use Rattle.resolve.specs.Meaning.{Input, after_of, after_one, interned, name_id, need_in, place_of, reason_id, same_version, solvable_in, solvable_of, unless}
+use Rattle.resolve.specs.Listings.{ListedPackage, no_versions, with_candidate, with_excluded}
+use Rattle.resolve.specs.Meaning.{Input, after_of, after_one, interned, interned_place, name_id, need_in, reason_id, same_version, solvable_in, solvable_of}
+use Rattle.resolve.specs.Meaning.{unless}
 use Rattle.resolve.specs.Meaning.{version_in, with_guard, with_name, with_need, with_optional, with_reason, with_set, with_sets, with_union, with_version}
-use Rattle.resolve.specs.Packages.{IsDeclarationRefused, IsDeclared, IsExcluded, IsExclusionRefused, IsMadeUnknown, IsReasonRefused, IsRequired, name_at, name_of}
+use Rattle.resolve.specs.Packages.{BecomesExcluded, IsDeclarationRefused, IsDeclared, IsExclusionRefused, IsMadeUnknown, IsReasonRefused, IsRequired, name_at, name_of}
 use Rattle.resolve.specs.Said.{Guard, Named, Need, Said, Wanted, on, both, either, declares, excludes, requires_any, requires_for, unknown_for}
 use Rattle.resolve.specs.Solvables.{Solvable, no_needs, with_requirement}
 use Rattle.resolve.specs.Tables.{AreTables}
@@ -30,7 +31,7 @@ use Rattle.resolve.specs.declared.statement.Statement.TheVariants.{Require, Requ
 use Rattle.resolve.specs.declared.words.SolvableText.{SolvableText}
 use Rattle.resolve.specs.declared.words.Spec.{Spec}
 use Rattle.resolve.specs.Guards.{AreNeed, AreSteps}
-use Rattle.resolve.specs.InputsView.{Adds}
+use Rattle.resolve.specs.InputsView.{AddsStatement}
 use Rattle.resolve.specs.StatementsSaid.{IsStatementOf, named_of}
 use Rattle.resolve.specs.Unions.{wanted_of}
 use Rattle.resolve.proofs.FitLemmas.{fit_name, place_within, tables_fit, within}
@@ -63,7 +64,7 @@ listed xs v here = at_place (same_version v) xs (position_or_len (same_version v
 
 -- what `declare` does
 module _ (input : Input) (it : Named) (named : Tables) (id : NameId) (e : named ≡ with_name input.tables it.name) (is : id ≡ name_id input.tables it.name)
-    (versions : List Version) (solvables : List Solvable) (packages : List Package) where
+    (versions : List Version) (solvables : List Solvable) (packages : List ListedPackage) where
   t : Tables
   t = input.tables
 
@@ -214,7 +215,7 @@ require_adds input new need t made e is same =
 -- what a reason adds to a solvable that was declared
 module _ (input new : Input) (it : Named) (reason : List ℕ) (s : SolvableId) (strings : List (List ℕ)) (id : StringId)
     (found : solvable_in input.tables it ≡ Some s) (table : strings ≡ interned bytes_eq input.tables.strings reason)
-    (at : id.0 ≡ place_of bytes_eq input.tables.strings reason) where
+    (at : id.0 ≡ interned_place bytes_eq input.tables.strings reason) where
   is_reason : id ≡ reason_id input.tables reason
   is_reason = λ i. record { 0 = at i }
 
@@ -260,8 +261,8 @@ module _ (input new : Input) (it : Named) (reason : List ℕ) (s : SolvableId) (
   unfolding reason_excluded
   excluded_is b e = ap (option_and_then (λ s. after_of input s (excludes it reason))) found ∙ ap (λ b. unless b input reason_excluded) e
 
-  pub exclude_adds : (solvables : List Solvable) (packages : List Package) →
-      IsExcluded input.tables.versions input.tables.solvables solvables input.tables.packages packages s id →
+  pub exclude_adds : (solvables : List Solvable) (packages : List ListedPackage) →
+      BecomesExcluded input.tables.versions input.tables.solvables solvables input.tables.packages packages s id →
       new ≡ record input { tables = record input.tables { strings = strings; solvables = solvables; packages = packages } } →
       after_one input (excludes it reason) ≡ Some new
   unfolding reason_excluded is_reason
@@ -277,7 +278,7 @@ module _ (input new : Input) (it : Named) (reason : List ℕ) (s : SolvableId) (
       excluded_is false (ap (λ (x : Solvable). x.is_excluded) stood ∙ h.included) ∙
       (λ i. Some (record input { tables = record input.tables { strings = sym table i; solvables = sym marked i; packages = sym written i } })) ∙ ap Some (sym same)
 
-  pub exclude_refused : (solvables : List Solvable) (packages : List Package) → AreTables input.tables →
+  pub exclude_refused : (solvables : List Solvable) (packages : List ListedPackage) → AreTables input.tables →
       IsExclusionRefused input.tables.versions input.tables.solvables solvables input.tables.packages packages s → after_one input (excludes it reason) ≡ None
   unfolding below
   exclude_refused solvables packages tables h =
@@ -291,11 +292,12 @@ pub reason_adds : (t t1 t2 : Tables) (strings : List (List ℕ)) (reason : List 
 reason_adds t t1 t2 strings reason same kept table = kept ∙
     (λ i. record (same i) { strings = (table ∙ ap (λ (u : Tables). interned bytes_eq u.strings reason) same) i })
 
-pub reason_place : (t t1 : Tables) (reason : List ℕ) (place : ℕ) → t1 ≡ t → place ≡ place_of bytes_eq t1.strings reason → place ≡ place_of bytes_eq t.strings reason
-reason_place t t1 reason place same at = at ∙ ap (λ (u : Tables). place_of bytes_eq u.strings reason) same
+pub reason_place : (t t1 : Tables) (reason : List ℕ) (place : ℕ) → t1 ≡ t → place ≡ interned_place bytes_eq t1.strings reason →
+    place ≡ interned_place bytes_eq t.strings reason
+reason_place t t1 reason place same at = at ∙ ap (λ (u : Tables). interned_place bytes_eq u.strings reason) same
 
 module _ (input new : Input) (it : Named) (reason : List ℕ) (s : SolvableId) (t : Tables) (id : StringId) (found : solvable_in input.tables it ≡ Some s)
-    (e : t ≡ with_reason input.tables reason) (at : id.0 ≡ place_of bytes_eq input.tables.strings reason) (tables : AreTables input.tables) where
+    (e : t ≡ with_reason input.tables reason) (at : id.0 ≡ interned_place bytes_eq input.tables.strings reason) (tables : AreTables input.tables) where
   pub unknown_result : (b : Bool) (solvables : List Solvable) → new ≡ record input { tables = record t { solvables = solvables } } →
       MatchBool b (IsMadeUnknown t.solvables solvables s id) (IsReasonRefused t.solvables solvables s) →
       MatchBool b (after_one input (unknown_for it reason) ≡ Some new) (after_one input (unknown_for it reason) ≡ None)
@@ -307,12 +309,13 @@ module _ (input new : Input) (it : Named) (reason : List ℕ) (s : SolvableId) (
       let P : Tables → Type 0 = λ u. IsReasonRefused u.solvables solvables s in
       unknown_refused input new it reason s (interned bytes_eq input.tables.strings reason) id found refl at solvables tables (subst P e h)
 
-  pub exclude_result : (b : Bool) (solvables : List Solvable) (packages : List Package) →
+  pub exclude_result : (b : Bool) (solvables : List Solvable) (packages : List ListedPackage) →
       new ≡ record input { tables = record t { solvables = solvables; packages = packages } } →
-      MatchBool b (IsExcluded t.versions t.solvables solvables t.packages packages s id) (IsExclusionRefused t.versions t.solvables solvables t.packages packages s) →
+      MatchBool b (BecomesExcluded t.versions t.solvables solvables t.packages packages s id)
+          (IsExclusionRefused t.versions t.solvables solvables t.packages packages s) →
       MatchBool b (after_one input (excludes it reason) ≡ Some new) (after_one input (excludes it reason) ≡ None)
   exclude_result true solvables packages same h =
-      let P : Tables → Type 0 = λ u. IsExcluded u.versions u.solvables solvables u.packages packages s id in
+      let P : Tables → Type 0 = λ u. BecomesExcluded u.versions u.solvables solvables u.packages packages s id in
       exclude_adds input new it reason s (interned bytes_eq input.tables.strings reason) id found refl at solvables packages (subst P e h)
       (same ∙ ap (λ (u : Tables). record input { tables = record u { solvables = solvables; packages = packages } }) e)
   exclude_result false solvables packages same h =
@@ -342,6 +345,6 @@ module _ (it : Statement) (said : Said) (union : Vec Spec Global) (condition : V
       let h : (need : Need) × (said ≡ requires_any need) × AreNeed union.items condition.items need = subst P e is in
       (h.0, h.1, needed h.0 h.2)
 
-pub adds_as : {E : Type 0} (result : Result Bool E) (old new : Request) (said other : Said) → said ≡ other → IfOk result (λ added. Adds added old new other) →
-    IfOk result (λ added. Adds added old new said)
-adds_as result old new said other e h = let P : Said → Type 0 = λ x. IfOk result (λ added. Adds added old new x) in subst P (sym e) h
+pub adds_as : {E : Type 0} (result : Result Bool E) (old new : Request) (said other : Said) → said ≡ other →
+    IfOk result (AddsStatement old new other) → IfOk result (AddsStatement old new said)
+adds_as result old new said other e h = let P : Said → Type 0 = λ x. IfOk result (AddsStatement old new x) in subst P (sym e) h

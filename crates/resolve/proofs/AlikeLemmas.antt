@@ -8,13 +8,13 @@ use Rattle.std.specs.Str.{bytes_eq}
 use Rattle.std.proofs.lemmas.Fmt.{decimal_injective}
 use Rattle.std.proofs.lemmas.List.{append-nil, take-append-drop}
 use Rattle.resolve.specs.LineWords.{words_of}
-use Rattle.resolve.specs.Meaning.{Input, after_of, after_one, package_of, solvable_in, solvable_of, unless}
+use Rattle.resolve.specs.Meaning.{Input, after_of, after_one, solvable_in, solvable_of, solvable_package, unless}
 use Rattle.resolve.specs.Catalogs.{Tables}
-use Rattle.resolve.specs.InputsView.{Adds, input_in}
+use Rattle.resolve.specs.InputsView.{AddsStatement, input_in}
 use Rattle.resolve.specs.declared.request.Request.{Request}
 use Rattle.resolve.specs.Said.{Guard, Named, Said, Wanted}
 use Rattle.resolve.specs.Said.{declares, requires_for, constrains_for, unknown_for, favors, locks, excludes, requires_any, constrains_all, soft_one, soft_of}
-use Rattle.resolve.specs.Spelling.{Names, Needs, Reasons, Says, Unites, Wants}
+use Rattle.resolve.specs.Spelling.{Names, Reasons, Says, SpellsNeed, Unites, Wants}
 use Rattle.resolve.specs.declared.ids.SolvableId.{SolvableId}
 use Rattle.resolve.proofs.WordLemmas.{same_name}
 
@@ -82,7 +82,7 @@ union_first (w ∷ []) (o ∷ p ∷ union) h = absurd h
 union_first (w ∷ b ∷ words) [] h = absurd h
 union_first (w ∷ b ∷ words) (o ∷ union) h = (w, b ∷ words, refl, (o, h.0))
 
-need_first : (words : List (List ℕ)) (union : List Wanted) (guard : Option Guard) → Needs words (record { union = union; guard = guard }) →
+need_first : (words : List (List ℕ)) (union : List Wanted) (guard : Option Guard) → SpellsNeed words (record { union = union; guard = guard }) →
     (word : List ℕ) × (more : List (List ℕ)) × (words ≡ word ∷ more) × ((it : Wanted) × Wants word it)
 need_first words union None h = union_first words union h
 need_first words union (Some g) (front, back, cut, unites, guards) =
@@ -122,8 +122,8 @@ one_head word None None h k = refl
 passes_found : Input → List ℕ → SolvableId → Bool
 passes_found input keyword s = cond (bytes_eq keyword (codes "package")) false
     (cond (bytes_eq keyword (codes "unknown")) (not (is_some (solvable_of input.tables s).unknown))
-    (cond (bytes_eq keyword (codes "favor")) (not (is_some (package_of input.tables s).favored))
-    (cond (bytes_eq keyword (codes "lock")) (not (is_some (package_of input.tables s).locked))
+    (cond (bytes_eq keyword (codes "favor")) (not (is_some (solvable_package input.tables s).favored))
+    (cond (bytes_eq keyword (codes "lock")) (not (is_some (solvable_package input.tables s).locked))
     (cond (bytes_eq keyword (codes "exclude")) (not (solvable_of input.tables s).is_excluded) true))))
 
 passes_at : Input → List ℕ → Option SolvableId → Bool
@@ -161,10 +161,10 @@ passed input (unknown_for it reason) =
     (λ s. unless_passes (is_some (solvable_of input.tables s).unknown) input _)
 passed input (favors it) =
     found (λ s. after_of input s (favors it)) input (codes "favor") (solvable_in input.tables it) refl
-    (λ s. unless_passes (is_some (package_of input.tables s).favored) input _)
+    (λ s. unless_passes (is_some (solvable_package input.tables s).favored) input _)
 passed input (locks it) =
     found (λ s. after_of input s (locks it)) input (codes "lock") (solvable_in input.tables it) refl
-    (λ s. unless_passes (is_some (package_of input.tables s).locked) input _)
+    (λ s. unless_passes (is_some (solvable_package input.tables s).locked) input _)
 passed input (excludes it reason) =
     found (λ s. after_of input s (excludes it reason)) input (codes "exclude") (solvable_in input.tables it) refl
     (λ s. unless_passes (solvable_of input.tables s).is_excluded input _)
@@ -189,6 +189,6 @@ bad_alike input line a b h k none =
     none_from (after_one input b)
     (passed input b ∙ sym (λ i. passes input (keywords i) (named i)) ∙ sym (passed input a) ∙ ap is_some none)
 
-pub not_added : (added : Bool) (old new : Request) (said : Said) → added ≡ false → Adds added old new said → after_one (input_in old) said ≡ None
+pub not_added : (added : Bool) (old new : Request) (said : Said) → added ≡ false → AddsStatement old new said added → after_one (input_in old) said ≡ None
 not_added true old new said e h = absurd cc
 not_added false old new said e h = h

@@ -10,7 +10,7 @@ use Rattle.resolver_clause_store.specs.declared.data.LogicalOperator.{LogicalOpe
 use Rattle.resolver_clause_store.specs.declared.data.LogicalOperator.TheVariants.{And, Or}
 use Rattle.resolve.specs.Catalogs.{Tables}
 use Rattle.resolve.specs.Evaluations.{Evaluated, Evaluates, Joins, Makes, evaluated, pushed}
-use Rattle.resolve.specs.Conditions.{IsJoined, IsPartMissing}
+use Rattle.resolve.specs.Conditions.{JoinsParts}
 use Rattle.resolve.proofs.ReadingLemmas.{last_same}
 use Rattle.resolve.specs.Guards.{AreNeed, AreSteps, GuardStep, and_step, or_step, postfix, step_seen}
 use Rattle.resolve.specs.declared.condition.ConditionStep.{ConditionStep}
@@ -83,8 +83,8 @@ module _ (operator : LogicalOperator) (t : Tables) (after : Evaluated) (aside fi
       let inner = last_same below h.below left h.left outer.0 in
       (inner.0, inner.1, outer.1)
 
-  pub joined_makes : (made : Option ConditionId) → MatchOption made (IsPartMissing t.conditions conditions left right)
-      (IsJoined t.conditions conditions operator left right) → Makes made (record t { conditions = conditions }) below after
+  pub joined_makes : (made : Option ConditionId) → JoinsParts t.conditions conditions operator left right made →
+      MatchOption made ⊥ (λ id. after ≡ evaluated (record t { conditions = conditions }) (below ++ id ∷ []))
   joined_makes None missing = missing.missing (subst (λ x. x.0 < length t.conditions) (sym cut.1) h.left_stands)
       (subst (λ x. x.0 < length t.conditions) (sym cut.2) h.right_stands)
   joined_makes (Some id) joined =
@@ -102,8 +102,8 @@ condition_evaluates g t aside steps same none =
     let Q : List ConditionId → Type 0 = λ xs. EvaluatesAll (postfix g ++ []) (evaluated t xs) (pushed (with_guard t g) []) in
     subst P (sym all) (subst Q (sym none) (postfix_evaluates g t [] [] (pushed (with_guard t g) []) refl))
 
-made_next : (t : Tables) (aside new : List ConditionId) (made : Option ConditionId) (id : ConditionId) (after : Evaluated) → Makes made t aside after →
-    made ≡ Some id → new ≡ aside ++ id ∷ [] → after ≡ evaluated t new
+made_next : (t : Tables) (aside new : List ConditionId) (made : Option ConditionId) (id : ConditionId) (after : Evaluated) →
+    MatchOption made ⊥ (λ id. after ≡ evaluated t (aside ++ id ∷ [])) → made ≡ Some id → new ≡ aside ++ id ∷ [] → after ≡ evaluated t new
 made_next t aside new None id after h is push = absurd h
 made_next t aside new (Some other) id after h is push =
     let same : other ≡ id = cc in h ∙ ap (λ x. evaluated t (aside ++ x ∷ [])) same ∙ ap (evaluated t) (sym push)
@@ -111,7 +111,7 @@ made_next t aside new (Some other) id after h is push =
 -- a turn of the loop
 pub evaluates_next : (xs : List ConditionStep) (i : ℕ) (d : ConditionStep) (before final : Evaluated) (t : Tables) (aside new : List ConditionId)
     (made : Option ConditionId) (id : ConditionId) → i < length xs → EvaluatesAll (map step_seen (drop i xs)) before final →
-    ((after : Evaluated) → Evaluates (step_seen (get_or xs i d)) before after → Makes made t aside after) → made ≡ Some id → new ≡ aside ++ id ∷ [] →
+    Makes (Evaluates (step_seen (get_or xs i d))) before t aside made → made ≡ Some id → new ≡ aside ++ id ∷ [] →
     EvaluatesAll (map step_seen (drop (i + 1) xs)) (evaluated t new) final
 evaluates_next xs i d before final t aside new made id below h step is push =
     let first : drop i xs ≡ get_or xs i d ∷ drop (i + 1) xs = drop-cons xs i d below ∙ ap (λ k. get_or xs i d ∷ drop k xs) (sym (add-one i)) in

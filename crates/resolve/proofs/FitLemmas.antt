@@ -14,7 +14,7 @@ use Rattle.resolve.specs.declared.catalog.Catalog.{Catalog}
 use Rattle.resolve.specs.declared.ids.SolvableId.{SolvableId}
 use Rattle.resolve.specs.declared.ids.Version.{Version}
 use Rattle.resolve.specs.Catalogs.{Tables, no_tables, tables_in}
-use Rattle.resolve.specs.Listings.{Package, no_versions}
+use Rattle.resolve.specs.Listings.{ListedPackage, no_versions}
 use Rattle.resolve.specs.Solvables.{Solvable}
 use Rattle.resolve.specs.Meaning.{Input, after_of, after_one, same_version, solvable_in, unless, version_in}
 use Rattle.resolve.specs.Meaning.{with_guard, with_name, with_need, with_optional, with_set, with_sets, with_union, with_version}
@@ -24,7 +24,7 @@ use Rattle.resolve.specs.Tables.{AreTables}
 use Rattle.std.specs.Prelude.{Result, Ok, Err, IfOk, OnOk}
 use Rattle.std.proofs.lemmas.Result.{IfOk-weaker}
 use Rattle.resolve.specs.declared.request.Request.{Request}
-use Rattle.resolve.specs.InputsView.{Adds, input_in}
+use Rattle.resolve.specs.InputsView.{AddsStatement, input_in}
 use Rattle.resolve.proofs.InputLemmas.{any_none, no_place, version_itself}
 
 -- each value stands once
@@ -32,7 +32,7 @@ abbrev pub Alone : {X : Type 0} → List X → Type 0
 Alone {X} xs = (i j : ℕ) (x : X) → slice_get xs i ≡ Some x → slice_get xs j ≡ Some x → i ≡ j
 
 -- all of `AreTables` but the limits
-pub record AreFit (names : List (List ℕ)) (packages : List Package) (solvables : List Solvable) (versions : List Version) : Type 0 where
+pub record AreFit (names : List (List ℕ)) (packages : List ListedPackage) (solvables : List Solvable) (versions : List Version) : Type 0 where
   pub paired : length packages ≡ length names
   pub listed : length solvables ≡ length versions
   pub named : (i : ℕ) (v : Version) → slice_get versions i ≡ Some v → v.name.0 < length names
@@ -63,7 +63,7 @@ alone_push {X} p xs y itself fresh alone = λ i j x at bt.
     (place_cases xs y j x bt)) (place_cases xs y i x at)
 
 -- a name
-fit_named : (b : Bool) (names : List (List ℕ)) (packages : List Package) (solvables : List Solvable) (versions : List Version) (name : List ℕ) →
+fit_named : (b : Bool) (names : List (List ℕ)) (packages : List ListedPackage) (solvables : List Solvable) (versions : List Version) (name : List ℕ) →
     list_any (bytes_eq name) names ≡ b → AreFit names packages solvables versions →
     AreFit (cond b names (names ++ name ∷ [])) (cond b packages (packages ++ no_versions ∷ [])) solvables versions
 fit_named true names packages solvables versions name e h = h
@@ -101,7 +101,7 @@ pub fit_need : (t : Tables) (need : Need) → Fits t → Fits (with_need t need)
 fit_need t need h = fit_optional (with_union t need.union) need.guard (fit_union t need.union h)
 
 -- a change of one solvable, or of one package
-pub fit_solvable : (names : List (List ℕ)) (packages : List Package) (solvables : List Solvable) (versions : List Version) (place : ℕ) (x : Solvable) →
+pub fit_solvable : (names : List (List ℕ)) (packages : List ListedPackage) (solvables : List Solvable) (versions : List Version) (place : ℕ) (x : Solvable) →
     AreFit names packages solvables versions → AreFit names packages (slice_set solvables place x) versions
 fit_solvable names packages solvables versions place x h = record {
   paired = h.paired;
@@ -111,8 +111,8 @@ fit_solvable names packages solvables versions place x h = record {
   versions_alone = h.versions_alone;
 }
 
-pub fit_package : (names : List (List ℕ)) (packages : List Package) (solvables : List Solvable) (versions : List Version) (place : ℕ) (p : Package) →
-    AreFit names packages solvables versions → AreFit names (slice_set packages place p) solvables versions
+pub fit_package : (names : List (List ℕ)) (packages : List ListedPackage) (solvables : List Solvable) (versions : List Version) (place : ℕ)
+    (p : ListedPackage) → AreFit names packages solvables versions → AreFit names (slice_set packages place p) solvables versions
 fit_package names packages solvables versions place p h = record {
   paired = length-set packages place p ∙ h.paired;
   listed = h.listed;
@@ -135,7 +135,7 @@ pub place_within : {X : Type 0} (b : Bool) (p : X → Bool) (xs : List X) (x : X
 place_within true p xs x e = within p xs e
 place_within false p xs x e = omega (arith, prefix_len-le-length (λ y. not (p y)) xs, length-append xs (x ∷ []))
 
-fit_push : (names : List (List ℕ)) (packages : List Package) (solvables : List Solvable) (versions : List Version) (x : Solvable) (v : Version) →
+fit_push : (names : List (List ℕ)) (packages : List ListedPackage) (solvables : List Solvable) (versions : List Version) (x : Solvable) (v : Version) →
     v.name.0 < length names → list_any (same_version v) versions ≡ false → AreFit names packages solvables versions →
     AreFit names packages (solvables ++ x ∷ []) (versions ++ v ∷ [])
 fit_push names packages solvables versions x v small fresh h = record {
@@ -258,18 +258,19 @@ no_tables_fit = record {
 }
 
 -- a statement that a method added gives tables
-pub after_added : (b : Bool) (old new : Request) (said : Said) → AreTables (tables_in old.catalog) → Adds b old new said → b ≡ true → AreTables (tables_in new.catalog)
+pub after_added : (b : Bool) (old new : Request) (said : Said) → AreTables (tables_in old.catalog) → AddsStatement old new said b → b ≡ true →
+    AreTables (tables_in new.catalog)
 after_added true old new said tables adds is = added_tables (input_in old) new.catalog (input_in new) said refl adds tables
 after_added false old new said tables adds is = absurd cc
 
 pub after_call : {E : Type 0} (result : Result Bool E) (old new : Request) (said : Said) → AreTables (tables_in old.catalog) →
-    IfOk result (λ added. Adds added old new said) → IfOk result (λ added. added ≡ true → AreTables (tables_in new.catalog))
-after_call result old new said tables h = IfOk-weaker result (λ added. Adds added old new said) (λ added. added ≡ true → AreTables (tables_in new.catalog))
-    (λ b adds is. after_added b old new said tables adds is) h
+    IfOk result (AddsStatement old new said) → IfOk result (λ added. added ≡ true → AreTables (tables_in new.catalog))
+after_call result old new said tables h = IfOk-weaker result (AddsStatement old new said) (λ added. added ≡ true →
+    AreTables (tables_in new.catalog)) (λ b adds is. after_added b old new said tables adds is) h
 
 -- whether it was added or refused, with the input as it was
 pub after_either : {E : Type 0} (result : Result Bool E) (old new : Request) (said : Said) → AreTables (tables_in old.catalog) →
-    IfOk result (λ added. Adds added old new said) → IfOk result (λ added. added ≡ false → input_in new ≡ input_in old) →
+    IfOk result (AddsStatement old new said) → IfOk result (λ added. added ≡ false → input_in new ≡ input_in old) →
     OnOk result (AreTables (tables_in new.catalog))
 after_either (Ok true) old new said tables adds refused = after_added true old new said tables adds refl
 after_either (Ok false) old new said tables adds refused =

@@ -22,7 +22,7 @@ use Rattle.resolve.specs.declared.request.known.KnownWords.{KnownWords}
 use Rattle.resolve.specs.Catalogs.{Tables}
 use Rattle.resolve.specs.KnownWords.{AreKnown, IsKnownSolvable, IsKnownSpec}
 use Rattle.resolve.specs.Listings.{no_versions}
-use Rattle.resolve.specs.Meaning.{Input, after_of, after_one, interned, name_id, next_solvable, place_of, same_range, same_set, same_version}
+use Rattle.resolve.specs.Meaning.{Input, after_of, after_one, interned, interned_place, name_id, next_solvable, same_range, same_set, same_version}
 use Rattle.resolve.specs.Meaning.{set_id, set_of, solvable_in, unless, version_in, with_guard, with_need, with_set, with_sets, with_union, with_version}
 use Rattle.resolve.specs.Said.{Guard, Named, Need, Said, Wanted, on, both, either}
 use Rattle.resolve.specs.Said.{declares, requires_for, constrains_for, unknown_for, favors, locks, excludes, requires_any, constrains_all, soft_one, soft_of}
@@ -236,7 +236,8 @@ place_interned_case : {X : Type 0} (p : X → Bool) (xs : List X) (x : X) (b : B
 place_interned_case p xs x true e = refl
 place_interned_case p xs x false e = place_push p xs x e
 
-pub place_interned : {X : Type 0} (same : X → X → Bool) (xs : List X) (x : X) → same x x ≡ true → place_of same (interned same xs x) x ≡ place_of same xs x
+pub place_interned : {X : Type 0} (same : X → X → Bool) (xs : List X) (x : X) → same x x ≡ true →
+    interned_place same (interned same xs x) x ≡ interned_place same xs x
 place_interned same xs x e = place_interned_case (same x) xs x (list_any (same x) xs) e
 
 pub name_itself : (name : List ℕ) → bytes_eq name name ≡ true
@@ -263,8 +264,8 @@ module _ (t new : Tables) (g : Grows t new) where
   spec_grows : (word : List ℕ) (id : VersionSetId) → IsKnownSpec t word id → IsKnownSpec new word id
   spec_grows word id h =
       let set = same_wanted h.wanted h.named in
-      let place : place_of same_set new.version_sets (set_of new h.wanted) ≡ place_of same_set t.version_sets (set_of t h.wanted) =
-      ap (place_of same_set new.version_sets) set ∙ place_front (same_set (set_of t h.wanted)) t.version_sets new.version_sets g.sets h.listed in
+      let place : interned_place same_set new.version_sets (set_of new h.wanted) ≡ interned_place same_set t.version_sets (set_of t h.wanted) =
+      ap (interned_place same_set new.version_sets) set ∙ place_front (same_set (set_of t h.wanted)) t.version_sets new.version_sets g.sets h.listed in
       record {
         wanted = h.wanted;
         wants = h.wants;
@@ -317,8 +318,10 @@ pub spec_known : (t new : Tables) (wanted : Wanted) (word : List ℕ) (id : Vers
 spec_known t new wanted word id wants e is =
     let n : (name_id (with_set t wanted) wanted.name).0 ≡ (name_id t wanted.name).0 = place_interned bytes_eq t.names wanted.name (name_itself wanted.name) in
     let same : set_of (with_set t wanted) wanted ≡ set_of t wanted = λ i. record { name = record { 0 = n i }; range = wanted.range } in
-    let place : place_of same_set (with_set t wanted).version_sets (set_of (with_set t wanted) wanted) ≡ place_of same_set t.version_sets (set_of t wanted) =
-    ap (place_of same_set (with_set t wanted).version_sets) same ∙ place_interned same_set t.version_sets (set_of t wanted) (set_itself (set_of t wanted)) in
+    let place : interned_place same_set (with_set t wanted).version_sets (set_of (with_set t wanted) wanted) ≡ interned_place same_set t.version_sets
+        (set_of t wanted) =
+    ap (interned_place same_set (with_set t wanted).version_sets) same ∙
+        place_interned same_set t.version_sets (set_of t wanted) (set_itself (set_of t wanted)) in
     let here : IsKnownSpec (with_set t wanted) word id = record {
       wanted = wanted;
       wants = wants;

@@ -30,7 +30,7 @@ use Rattle.resolve.specs.Listings.{with_excluded}
 use Rattle.resolve.specs.InputLaws.{AreAlone, AreDeclared, AreDemanded, AreFound, AreRequired, AreSpecs, IsGuard, IsNeed, IsSpec, IsUnion, IsWhen, Pairs, declaration, declared}
 use Rattle.resolve.specs.InputLaws.{named_in, need_always, need_for, needs_always, needs_for, same_named}
 use Rattle.resolve.specs.Meaning.{Input, Means, after_all, after_of, after_one, changed, interned, last_condition, name_id, need_in, no_input, optional_id, reason_id}
-use Rattle.resolve.specs.Meaning.{place_of, same_members, same_set, same_version, set_id, set_ids, set_of, solvable_in, solvable_of, union_id, unless, version_in}
+use Rattle.resolve.specs.Meaning.{interned_place, same_members, same_set, same_version, set_id, set_ids, set_of, solvable_in, solvable_of, union_id, unless, version_in}
 use Rattle.resolve.specs.Meaning.{with_guard, with_need, with_optional, with_package, with_reason, with_set, with_sets, with_solvable, with_union, with_version}
 use Rattle.resolve.specs.Said.{Guard, Named, Need, Said, Wanted, on, both, either}
 use Rattle.resolve.specs.Said.{declares, requires_for, constrains_for, unknown_for, favors, locks, excludes, requires_any, constrains_all, soft_one, soft_of}
@@ -54,7 +54,7 @@ front_get xs ys i d (more, is) below = ap (λ zs. slice_index_or zs i d) is ∙ 
 
 -- what was interned stands at its place
 stands : {X : Type 0} (same : X → X → Bool) → ((x : X) → same x x ≡ true) → ((x y : X) → same x y ≡ true → x ≡ y) → (xs : List X) (x : X) →
-    slice_get (interned same xs x) (place_of same xs x) ≡ Some x
+    slice_get (interned same xs x) (interned_place same xs x) ≡ Some x
 stands {X} same itself only xs x =
     let ys : List X = interned same xs x in
     let there : list_any (same x) ys ≡ true = any_interned same xs x (itself x) in
@@ -241,7 +241,7 @@ specs_made t (w ∷ ws) = (
 )
 
 joint_made : (t : Tables) (ws : List Wanted) → IsUnion (record (with_sets t ws) { unions = interned same_members t.unions (set_ids t ws) })
-    (Union (record { 0 = place_of same_members t.unions (set_ids t ws) })) ws
+    (Union (record { 0 = interned_place same_members t.unions (set_ids t ws) })) ws
 joint_made t ws =
     let u : Tables = with_sets t ws in
     let new : Tables = record u { unions = interned same_members t.unions (set_ids t ws) } in (

@@ -6,7 +6,7 @@ use Rattle.resolver_clause_store.specs.declared.ids.StringId.{StringId}
 use Rattle.resolve.specs.declared.ids.SolvableId.{SolvableId}
 use Rattle.resolve.specs.declared.catalog.packages.Listing.{Listing}
 use Rattle.resolve.specs.Links.{up_to}
-use Rattle.resolve.specs.Listings.{IsListedWithin, Package, no_versions, package_in, with_candidate, with_excluded}
+use Rattle.resolve.specs.Listings.{IsListedWithin, ListedPackage, no_versions, package_in, with_candidate, with_excluded}
 use Rattle.resolve.proofs.LinkLemmas.{up_to-kept}
 
 -- what stands at a place
@@ -68,7 +68,7 @@ barred rs cs rows place row longer item all is within last =
 
 -- a mark
 pub marked : (rs : List (List SolvableId)) (cs : List (List (SolvableId × StringId))) (rows : List Listing) (place : ℕ) (row new : Listing)
-    (mark : Package → Package) → row ≡ get_or rows place row → place < length rows → package_in rs cs new ≡ mark (package_in rs cs row) →
+    (mark : ListedPackage → ListedPackage) → row ≡ get_or rows place row → place < length rows → package_in rs cs new ≡ mark (package_in rs cs row) →
     map (package_in rs cs) (slice_set rows place new) ≡
     slice_set (map (package_in rs cs) rows) place (mark (slice_index_or (map (package_in rs cs) rows) place no_versions))
 marked rs cs rows place row new mark is within says =
@@ -76,7 +76,7 @@ marked rs cs rows place row new mark is within says =
     map-set (package_in rs cs) rows place new ∙ ap (slice_set (map (package_in rs cs) rows) place) (says ∙ ap mark (sym stood))
 
 -- a place of the table is one of the rows
-pub inside : (rs : List (List SolvableId)) (cs : List (List (SolvableId × StringId))) (rows : List Listing) (place : ℕ) (value : List Package) →
+pub inside : (rs : List (List SolvableId)) (cs : List (List (SolvableId × StringId))) (rows : List Listing) (place : ℕ) (value : List ListedPackage) →
     map (package_in rs cs) rows ≡ value → place < length value → place < length rows
 inside rs cs rows place value view within =
     omega (arith, within, ap length view, length-map rows (package_in rs cs))

@@ -17,7 +17,7 @@ use Rattle.resolve.specs.Inputs.{IsInput}
 use Rattle.resolve.specs.InputsView.{input_in}
 use Rattle.resolve.specs.Meaning.{Input}
 use Rattle.resolve.specs.Outcomes.{IsFaultTo, IsOutcomeIn, IsSolved, IsToldTo}
-use Rattle.resolve.specs.Universes.{demands_of, universe_in}
+use Rattle.resolve.specs.Universes.{input_demands, universe_in}
 use Rattle.resolve.specs.declared.catalog.Catalog.{Catalog}
 use Rattle.resolve.specs.declared.ids.NameId.{NameId}
 use Rattle.resolve.specs.declared.ids.SolvableId.{SolvableId}
@@ -53,7 +53,7 @@ listed gives it u root soft chosen exempt none h =
 pub solved_by : {C I : Type 0} (gives : I → Option SolvableId → I → Type 0) (before : Option I) (request : Request) (it : Catalog) (root : Demands)
     (soft : List (SoftRequirement SolvableId)) (may_cancel : C → Type 0) (at_limit : Type 0) (exempt : List SolvableId)
     (answered : Result (Vec SolvableId Global) (UnsolvableOrCancelled Catalog C NameId SolvableId)) →
-    it ≡ request.catalog → root ≡ demands_of (input_in request) → before ≡ None → soft ≡ request.soft_requirements.items →
+    it ≡ request.catalog → root ≡ input_demands (input_in request) → before ≡ None → soft ≡ request.soft_requirements.items →
     IfOk answered (λ chosen. (items : List SolvableId) × AreItems gives before items ×
     IsSoftAnswer (catalog_universe it) root (map SoftSolvable items ++ soft) chosen.items exempt) →
     IfErr answered (IsRefusal (catalog_universe it) may_cancel root at_limit) → IsSolved (input_in request) answered
@@ -63,7 +63,8 @@ solved_by gives before request it root soft may_cancel at_limit exempt (Ok chose
     let known : Answered (catalog_universe it) root soft = listed gives before (catalog_universe it) root soft chosen.items exempt none answer in
     let At : Universe NameId SolvableId → Type 0 = λ u. Answered u root soft in
     let Of : Demands → Type 0 = λ root. Answered u root soft in
-    (exempt, subst (Answered u (demands_of (input_in request))) list (subst Of asked (subst At (ap catalog_universe same ∙ catalog_universe_is request.catalog) known)))
+    (exempt, subst (Answered u (input_demands (input_in request))) list
+        (subst Of asked (subst At (ap catalog_universe same ∙ catalog_universe_is request.catalog) known)))
 solved_by gives before request it root soft may_cancel at_limit exempt (Err (Unsolvable conflict)) same asked none list answer refusal =
     let u : Universe NameId SolvableId = universe_in (tables_in request.catalog) in
     let Given : Universe NameId SolvableId → Demands → Type 0 = λ u root. Explains u root (rules_in conflict) in

@@ -7,7 +7,7 @@ use Rattle.std.proofs.lemmas.List.Elements.{All-weaker, All-push}
 use Rattle.std.proofs.lemmas.List.Quantifiers.{all_pairs_push}
 use Rattle.resolve.specs.declared.ids.SolvableId.{SolvableId}
 use Rattle.resolve.specs.declared.ids.Version.{Version}
-use Rattle.resolve.specs.Listings.{Package}
+use Rattle.resolve.specs.Listings.{ListedPackage}
 use Rattle.resolve.specs.Packages.{name_of, IsVersionOf, IsPackageOf, ArePackagesOf}
 use Rattle.resolver_clause_store.proofs.ListLemmas.{slice_get-append_left, slice_get-last}
 use Rattle.resolver_clause_store.proofs.PlaceLemmas.{place_cases}
@@ -46,7 +46,7 @@ IsKept-push xs y = record {
 pub IsVersionOf-kept : (xs ys : List Version) → IsKept xs ys → (n : ℕ) (s : SolvableId) → IsVersionOf xs n s → IsVersionOf ys n s
 IsVersionOf-kept xs ys kept n s h = record { declared = omega (arith, kept.declared, h.declared); named = kept.named s.0 h.declared ∙ h.named }
 
-pub IsPackageOf-kept : (xs ys : List Version) → IsKept xs ys → (n : ℕ) (p : Package) → IsPackageOf xs n p → IsPackageOf ys n p
+pub IsPackageOf-kept : (xs ys : List Version) → IsKept xs ys → (n : ℕ) (p : ListedPackage) → IsPackageOf xs n p → IsPackageOf ys n p
 IsPackageOf-kept xs ys kept n p h = record {
   listed = All-weaker (IsVersionOf xs n) (IsVersionOf ys n) (IsVersionOf-kept xs ys kept n) _ h.listed;
   rising = h.rising;
@@ -55,21 +55,23 @@ IsPackageOf-kept xs ys kept n p h = record {
   excluded = All-weaker (λ e. IsVersionOf xs n e.0) (λ e. IsVersionOf ys n e.0) (λ e. IsVersionOf-kept xs ys kept n e.0) _ h.excluded;
 }
 
-pub ArePackagesOf-kept : (xs ys : List Version) → IsKept xs ys → (ps : List Package) → ArePackagesOf xs ps → ArePackagesOf ys ps
+pub ArePackagesOf-kept : (xs ys : List Version) → IsKept xs ys → (ps : List ListedPackage) → ArePackagesOf xs ps → ArePackagesOf ys ps
 ArePackagesOf-kept xs ys kept ps h = λ n p e. IsPackageOf-kept xs ys kept n p (h n p e)
 
-pub ArePackagesOf-pushed : (b : Bool) (xs : List Version) (ps qs : List Package) (q : Package) → qs ≡ cond b (ps ++ q ∷ []) ps → ArePackagesOf xs ps →
-    IsPackageOf xs (length ps) q → ArePackagesOf xs qs
-ArePackagesOf-pushed true xs ps qs q e h new = let Q : List Package → Type 0 = λ rs. ArePackagesOf xs rs in
+pub ArePackagesOf-pushed : (b : Bool) (xs : List Version) (ps qs : List ListedPackage) (q : ListedPackage) → qs ≡ cond b (ps ++ q ∷ []) ps →
+    ArePackagesOf xs ps → IsPackageOf xs (length ps) q → ArePackagesOf xs qs
+ArePackagesOf-pushed true xs ps qs q e h new = let Q : List ListedPackage → Type 0 = λ rs. ArePackagesOf xs rs in
     subst Q (sym e) (λ n p at. ⊎_elim (λ old. h n p old) (λ here.
-    let R : ℕ → Type 0 = λ k. IsPackageOf xs k p in let S : Package → Type 0 = λ r. IsPackageOf xs (length ps) r in subst R (sym here.0) (subst S here.1 new))
+    let R : ℕ → Type 0 = λ k. IsPackageOf xs k p in let S : ListedPackage → Type 0 = λ r. IsPackageOf xs (length ps) r in
+        subst R (sym here.0) (subst S here.1 new))
     (place_cases ps q n p at))
-ArePackagesOf-pushed false xs ps qs q e h new = let Q : List Package → Type 0 = λ rs. ArePackagesOf xs rs in subst Q (sym e) h
+ArePackagesOf-pushed false xs ps qs q e h new = let Q : List ListedPackage → Type 0 = λ rs. ArePackagesOf xs rs in subst Q (sym e) h
 
-pub ArePackagesOf-set : (xs : List Version) (ps : List Package) (i : ℕ) (q : Package) → ArePackagesOf xs ps → IsPackageOf xs i q → ArePackagesOf xs (set ps i q)
+pub ArePackagesOf-set : (xs : List Version) (ps : List ListedPackage) (i : ℕ) (q : ListedPackage) → ArePackagesOf xs ps → IsPackageOf xs i q →
+    ArePackagesOf xs (set ps i q)
 ArePackagesOf-set xs ps i q h new =
     λ n p at. ⊎_elim (λ old. h n p old) (λ here.
-    let R : ℕ → Type 0 = λ k. IsPackageOf xs k p in let S : Package → Type 0 = λ r. IsPackageOf xs i r in subst R (sym here.0) (subst S here.1 new))
+    let R : ℕ → Type 0 = λ k. IsPackageOf xs k p in let S : ListedPackage → Type 0 = λ r. IsPackageOf xs i r in subst R (sym here.0) (subst S here.1 new))
     (slice_get-set_cases ps i q n p at)
 
 -- the version that was pushed last is a version of its package
@@ -105,7 +107,7 @@ IsKept-inserted true xs ys y e = let Q : List Version → Type 0 = λ zs. IsKept
 IsKept-inserted false xs ys y e = let Q : List Version → Type 0 = λ zs. IsKept xs zs in subst Q (sym e) (IsKept-push xs y)
 
 -- a package after a version of it was declared, and listed or not
-pub IsPackageOf-declared : (xs ys : List Version) (y : Version) (s : SolvableId) (b : Bool) (p q : Package) → ys ≡ xs ++ y ∷ [] → s.0 ≡ length xs →
+pub IsPackageOf-declared : (xs ys : List Version) (y : Version) (s : SolvableId) (b : Bool) (p q : ListedPackage) → ys ≡ xs ++ y ∷ [] → s.0 ≡ length xs →
     q.candidates ≡ cond b (p.candidates ++ s ∷ []) p.candidates → q.favored ≡ p.favored → q.locked ≡ p.locked → q.excluded ≡ p.excluded →
     IsPackageOf xs y.name.0 p → IsPackageOf ys y.name.0 q
 IsPackageOf-declared xs ys y s b p q e at listed favored locked excluded h =
@@ -129,7 +131,7 @@ pub few_more : (vs ws : List Version) (v : Version) (id : ℕ) → ws ≡ vs ++ 
 few_more vs ws v id added at small = omega (arith, ap length added, length-append vs (v ∷ []), at, small)
 
 -- packages after a call that may be refused
-pub ArePackagesOf-tried : {X E : Type 0} (vs : List Version) (ps qs new : List Package) (result : Result X E) → OnOk result (qs ≡ new) →
+pub ArePackagesOf-tried : {X E : Type 0} (vs : List Version) (ps qs new : List ListedPackage) (result : Result X E) → OnOk result (qs ≡ new) →
     OnErr result (qs ≡ ps) → ArePackagesOf vs ps → ArePackagesOf vs new → ArePackagesOf vs qs
-ArePackagesOf-tried vs ps qs new (Ok x) made kept before after = let Q : List Package → Type 0 = λ rs. ArePackagesOf vs rs in subst Q (sym made) after
-ArePackagesOf-tried vs ps qs new (Err e) made kept before after = let Q : List Package → Type 0 = λ rs. ArePackagesOf vs rs in subst Q (sym kept) before
+ArePackagesOf-tried vs ps qs new (Ok x) made kept before after = let Q : List ListedPackage → Type 0 = λ rs. ArePackagesOf vs rs in subst Q (sym made) after
+ArePackagesOf-tried vs ps qs new (Err e) made kept before after = let Q : List ListedPackage → Type 0 = λ rs. ArePackagesOf vs rs in subst Q (sym kept) before

@@ -16,7 +16,7 @@ use Rattle.resolve.specs.declared.statement.LineError.TheVariants.{Bad, Exhauste
 use Rattle.resolve.specs.Words.{StatesSpec}
 use Rattle.resolve.proofs.GuardRuns.{Leads, Runs, Runs-append, guard_runs, lead_runs, lead_start, led_guard, runs_on}
 use Rattle.resolve.specs.Guards.{ReadsGuard, RefusesGuard, step_seen}
-use Rattle.resolve.specs.Readings.{EndsWith, Level, RefusesEnd, RefusesWord, Shows, State, StepAt, StepsTo, after_and, after_level, joined_all, joined_and, no_level, pending_of}
+use Rattle.resolve.specs.Readings.{EndsWithSteps, Level, RefusesEnd, RefusesWord, Shows, State, StepAt, StepsTo, after_and, after_level, joined_all, joined_and, no_level, pending_operators}
 use Rattle.resolve.specs.Readings.{pending_outside, state}
 use Rattle.resolve.specs.Said.{Guard, Wanted, on}
 use Rattle.resolve.specs.Spelling.{Guards, Wants, any_of}
@@ -36,7 +36,7 @@ last_same (a ∷ xs) (b ∷ ys) x y e =
 
 -- a parenthesis is opened
 opened_at : (part : Option Guard) (outside : List Level) (here : Level) (word : List ℕ) (it new : Reading) → Shows it (state outside here part) →
-    it.wants_part ≡ true → word ≡ codes "(" → new.steps.items ≡ it.steps.items → new.pending ≡ pending_of no_level →
+    it.wants_part ≡ true → word ≡ codes "(" → new.steps.items ≡ it.steps.items → new.pending ≡ pending_operators no_level →
     new.outside.items ≡ it.outside.items ++ it.pending ∷ [] → new.wants_part ≡ true → StepsTo (state outside here part) word new
 opened_at (Some g) outside here word it new h w is steps pending out wants = absurd (let wrong : false ≡ true = sym h.part ∙ w in cc)
 opened_at None outside here word it new h w is steps pending out wants = record {
@@ -51,7 +51,7 @@ opened_at None outside here word it new h w is steps pending out wants = record 
 }
 
 pub opened : (s : State) (word : List ℕ) (it new : Reading) → Shows it s → it.wants_part ≡ true → word ≡ codes "(" → new.steps.items ≡ it.steps.items →
-    new.pending ≡ pending_of no_level → new.outside.items ≡ it.outside.items ++ it.pending ∷ [] → new.wants_part ≡ true → StepsTo s word new
+    new.pending ≡ pending_operators no_level → new.outside.items ≡ it.outside.items ++ it.pending ∷ [] → new.wants_part ≡ true → StepsTo s word new
 opened s word it new h = opened_at s.part s.outside s.here word it new h
 
 -- a spec is pushed
@@ -123,7 +123,7 @@ closed_at : (outside : List Level) (here : Level) (g : Guard) (word : List ℕ) 
 closed_at [] here g word it new h is steps out wants =
     absurd (omega (arith, ap length (sym h.outside ∙ out), simp length-append at (ap length (sym h.outside ∙ out))))
 closed_at (level ∷ levels) here g word it new h is steps out wants =
-    let cut = last_same (pending_outside levels) new.outside.items (pending_of level) new.pending (sym h.outside ∙ out) in
+    let cut = last_same (pending_outside levels) new.outside.items (pending_operators level) new.pending (sym h.outside ∙ out) in
     record {
       next = state levels level (Some (joined_all here g));
       step = inr (inr (is, level, levels, refl, refl));
@@ -191,7 +191,7 @@ none_outside (level ∷ levels) xs e h = absurd (omega (arith, h, simp length-ap
 -- the end, where nothing is open
 pub ended : (s : State) (old it : Reading) → Shows old s → old.wants_part ≡ false → length old.outside.items ≡ 0 →
     ((outside : List Level) (here : Level) (g : Guard) → Shows old (state outside here (Some g)) → Shows it (after_level outside here g)) →
-    EndsWith s it.steps.items
+    EndsWithSteps s it.steps.items
 ended s old it h w none joins =
     let read = part_of s old h w in
     let empty : s.outside ≡ [] = none_outside s.outside old.outside.items h.outside none in
@@ -225,7 +225,7 @@ read_on words left rest word it new h e step = record {
 }
 
 -- at the end the words are a guard
-pub reads_guard : (words left : List (List ℕ)) (it : Reading) (steps : List ConditionStep) (h : ReadTo words left it) → left ≡ [] → EndsWith h.at steps →
+pub reads_guard : (words left : List (List ℕ)) (it : Reading) (steps : List ConditionStep) (h : ReadTo words left it) → left ≡ [] → EndsWithSteps h.at steps →
     ReadsGuard words steps
 reads_guard words left it steps h none end =
     let all : words ≡ h.read = h.is ∙ ap (λ l. h.read ++ l) none ∙ append-nil h.read in

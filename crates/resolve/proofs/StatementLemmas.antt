@@ -7,8 +7,8 @@ use Rattle.std.proofs.lemmas.List.{append-nil}
 use Rattle.resolve.specs.LineWords.{after_word, from_word, words_of}
 use Rattle.resolve.specs.Said.{Guard, Named, Need, Said, Wanted}
 use Rattle.resolve.specs.Said.{declares, requires_for, constrains_for, unknown_for, favors, locks, excludes, requires_any, constrains_all, soft_one, soft_of}
-use Rattle.resolve.specs.Spelling.{Follows, Guards, Names, Needs, Reasons, Says, Unites, Wants, any_of, without_end}
-use Rattle.resolve.specs.StatementsSaid.{Begins, IsReasoned, Reads, ReadsAs, ReadsIf, ReadsNeed, Refuses}
+use Rattle.resolve.specs.Spelling.{Guards, IsKeywordLine, Names, Reasons, Says, SpellsNeed, Unites, Wants, any_of, without_end}
+use Rattle.resolve.specs.StatementsSaid.{Begins, IsSolvableWithReason, Reads, ReadsAs, ReadsIf, ReadsNeed, Refuses}
 use Rattle.resolve.specs.StatementsSaid.{RefusesIf, RefusesNeed, SaysNothing, UnionEnds, spelled}
 use Rattle.resolve.specs.Unions.{EndsUnion, ReadsUnion, RefusesUnion, wanted_of}
 use Rattle.resolve.specs.Words.{StatesSolvable, StatesSpec}
@@ -70,7 +70,7 @@ need_read words left (Some word) specs steps read ends (is, (g, guards, steps_ar
 )
 
 no_need : (words : List (List ℕ)) (union : List Wanted) (guard : Option Guard) → RefusesUnion words Bad →
-    Needs words (record { union = union; guard = guard }) → ⊥
+    SpellsNeed words (record { union = union; guard = guard }) → ⊥
 no_need words union None h needs = h words [] union (sym (append-nil words)) tt needs
 no_need words union (Some g) h (front, back, cut, unites, guards) = h front (codes "if" ∷ back) union cut refl unites
 
@@ -79,7 +79,7 @@ union_refused words Bad h = λ need needs. no_need words need.union need.guard h
 union_refused words (Exhausted x) h = tt
 
 no_if : (words left : List (List ℕ)) (word : Bor (List ℕ)) (union other : List Wanted) (guard : Option Guard) → ReadsUnion words left (Some word) union →
-    UnionEnds (Some word) left → RefusesIf (Some word) left Bad → Needs words (record { union = other; guard = guard }) → ⊥
+    UnionEnds (Some word) left → RefusesIf (Some word) left Bad → SpellsNeed words (record { union = other; guard = guard }) → ⊥
 no_if words left word union other None read ends never needs =
     let end : word.now ∷ left ≡ [] = one_end read.front (word.now ∷ left) words [] (unites_bars read.front union read.unites) (unites_bars words other needs)
     ends tt (sym read.is ∙ sym (append-nil words)) in cc
@@ -104,19 +104,19 @@ abbrev pub WantOne : List ℕ → Type 0
 WantOne rest = (word : List ℕ) × (it : Wanted) × (words_of rest ≡ word ∷ []) × Wants word it
 
 abbrev pub HasReason : List ℕ → Type 0
-HasReason rest = (it : Named) × (reason : List ℕ) × IsReasoned rest it reason
+HasReason rest = (it : Named) × (reason : List ℕ) × IsSolvableWithReason rest it reason
 
 abbrev pub Holds : Keyword → List ℕ → Type 0
 Holds Package rest = HasOne rest
 Holds Requires rest = (word : List ℕ) × (words : List (List ℕ)) × (it : Named) × (need : Need)
-    × (words_of rest ≡ word ∷ words) × Names word it × Needs words need
+    × (words_of rest ≡ word ∷ words) × Names word it × SpellsNeed words need
 Holds Constrains rest = (word : List ℕ) × (other : List ℕ) × (it : Named) × (wanted : Wanted)
     × (words_of rest ≡ word ∷ other ∷ []) × Names word it × Wants other wanted
 Holds Unknown rest = HasReason rest
 Holds Favor rest = HasOne rest
 Holds Lock rest = HasOne rest
 Holds Exclude rest = HasReason rest
-Holds Require rest = (need : Need) × Needs (words_of rest) need
+Holds Require rest = (need : Need) × SpellsNeed (words_of rest) need
 Holds Constrain rest = WantOne rest
 Holds Soft rest = HasOne rest ⊎ WantOne rest
 
@@ -155,13 +155,13 @@ record IsKeyword (word rest : List ℕ) : Type 0 where
   is : word ≡ spelled keyword
   holds : Holds keyword rest
 
-cut : (line word rest keyword : List ℕ) (words : List (List ℕ)) → Begins line word rest → Follows line keyword words →
+cut : (line word rest keyword : List ℕ) (words : List (List ℕ)) → Begins line word rest → IsKeywordLine line keyword words →
     (word ≡ keyword) × (words_of rest ≡ words)
 cut line word rest keyword words b follows =
     let both : word ∷ words_of rest ≡ keyword ∷ words = sym b.words ∙ follows in (cc, cc)
 
 reasons : (line word rest keyword : List ℕ) (it : Named) (reason : List ℕ) → Begins line word rest → Reasons line keyword it reason →
-    (word ≡ keyword) × IsReasoned rest it reason
+    (word ≡ keyword) × IsSolvableWithReason rest it reason
 reasons line word rest keyword it reason b r =
     let both : word ∷ take 1 (words_of rest) ≡ keyword ∷ r.word ∷ [] = ap (take 2) (sym b.words) ∙ r.front in (
       cc,
@@ -195,7 +195,7 @@ module _ (line word rest : List ℕ) (b : Begins line word rest) where
       let c = reasons line word rest (codes "exclude") it reason b r in record { keyword = Exclude; is = c.0; holds = (it, reason, c.1) }
   behind (requires_any need) (words, follows, needs) =
       let c = cut line word rest (codes "require") words b follows in
-      record { keyword = Require; is = c.0; holds = (need, subst (λ w. Needs w need) (sym c.1) needs) }
+      record { keyword = Require; is = c.0; holds = (need, subst (λ w. SpellsNeed w need) (sym c.1) needs) }
   behind (constrains_all wanted) (first, follows, wants) =
       let c = cut line word rest (codes "constrain") (first ∷ []) b follows in record { keyword = Constrain; is = c.0; holds = (first, wanted, c.1, wants) }
   behind (soft_one it) (first, follows, names) =
@@ -217,12 +217,12 @@ unsaid keyword rest never line b it says =
     let k = behind line (spelled keyword) rest b it says in
     never (subst (λ w. Holds w rest) (sym (same_keyword keyword k.keyword k.is)) k.holds)
 
-pub follows : (line keyword rest : List ℕ) (words : List (List ℕ)) → Begins line keyword rest → words_of rest ≡ words → Follows line keyword words
+pub follows : (line keyword rest : List ℕ) (words : List (List ℕ)) → Begins line keyword rest → words_of rest ≡ words → IsKeywordLine line keyword words
 follows line keyword rest words b e = b.words ∙ ap (λ w. keyword ∷ w) e
 
 -- a keyword, a solvable and a reason
 pub reasoned : (line keyword rest : List ℕ) (it : Named) (reason : List ℕ) → Begins line keyword rest →
-    IsReasoned rest it reason → Reasons line keyword it reason
+    IsSolvableWithReason rest it reason → Reasons line keyword it reason
 reasoned line keyword rest it reason b r = record {
   word = r.word;
   front = ap (take 2) b.words ∙ ap (λ w. keyword ∷ w) r.front;
@@ -257,7 +257,7 @@ need_unsaid line rest (Exhausted x) never b = tt
 pub need_for_unsaid : (line rest word : List ℕ) (left : List (List ℕ)) (e : LineError) → words_of rest ≡ word ∷ left → RefusesNeed left e →
     Begins line (codes "requires") rest → Refuses line e
 need_for_unsaid line rest word left Bad is never b = unsaid Requires rest (λ h.
-    let both : word ∷ left ≡ h.0 ∷ h.1 = sym is ∙ h.4 in let same : h.1 ≡ left = cc in never h.3 (subst (λ w. Needs w h.3) same h.6)) line b
+    let both : word ∷ left ≡ h.0 ∷ h.1 = sym is ∙ h.4 in let same : h.1 ≡ left = cc in never h.3 (subst (λ w. SpellsNeed w h.3) same h.6)) line b
 need_for_unsaid line rest word left (Exhausted x) is never b = tt
 
 -- a line without words says nothing

@@ -13,7 +13,7 @@ use Rattle.resolver_clause_store.specs.declared.data.Condition.TheVariants.{Bina
 use Rattle.resolve.specs.declared.ids.NameId.{NameId}
 use Rattle.resolve.specs.declared.ids.SolvableId.{SolvableId}
 use Rattle.resolve.specs.declared.ids.Version.{Version}
-use Rattle.resolve.specs.Listings.{Package}
+use Rattle.resolve.specs.Listings.{ListedPackage}
 use Rattle.resolve.specs.declared.catalog.Catalog.{Catalog}
 use Rattle.resolve.specs.Packages.{name_at, preference, IsVersionOf, IsPackageOf}
 use Rattle.resolve.specs.Conditions.{condition_or_first}
@@ -30,14 +30,14 @@ catalog_ids_lawful it = record {
   right_lower = λ i a b op e. (it.conditions.lawful i.0 op a b (parts_lower_at (slice_get it.conditions.conditions.items i.0) op a b e)).1;
 }
 
-named_of : (solvables : List Version) (n : NameId) (s : SolvableId) → IsVersionOf solvables n.0 s → name_at solvables s ≡ n
-named_of solvables n s h = ap (λ (k : ℕ). let m : NameId = record { 0 = k } in m) h.named
+name_of_version : (solvables : List Version) (n : NameId) (s : SolvableId) → IsVersionOf solvables n.0 s → name_at solvables s ≡ n
+name_of_version solvables n s h = ap (λ (k : ℕ). let m : NameId = record { 0 = k } in m) h.named
 
 once_of : (xs : List SolvableId) → AllPairs (λ a b. a.0 < b.0) xs → AllPairs ◌≢◌ xs
 once_of xs up = λ i j d below within e. let apart : (get_or xs i d).0 < (get_or xs j d).0 = up i j d below within in
     let same : (get_or xs i d).0 ≡ (get_or xs j d).0 = ap (λ (s : SolvableId). s.0) e in omega arith
 
-listing_lawful : (it : Catalog) (n : NameId) (o : Option Package) → ((p : Package) → o ≡ Some p → IsPackageOf it.packages.versions.keys n.0 p) →
+listing_lawful : (it : Catalog) (n : NameId) (o : Option ListedPackage) → ((p : ListedPackage) → o ≡ Some p → IsPackageOf it.packages.versions.keys n.0 p) →
     IsLawfulPackage (catalog_universe it) n (listing_of o)
 listing_lawful it n None h = record {
   listed = λ s at. absurd (omega (arith, at.1));
@@ -50,11 +50,11 @@ listing_lawful it n (Some p) h =
     let solvables : List Version = it.packages.versions.keys in
     let q : IsPackageOf it.packages.versions.keys n.0 p = h p refl in
     record {
-      listed = λ s at. named_of it.packages.versions.keys n s (All-contains (IsVersionOf it.packages.versions.keys n.0) p.candidates s q.listed at);
-      favored = IfSome_then p.favored q.favored (named_of it.packages.versions.keys n);
-      locked = IfSome_then p.locked q.locked (named_of it.packages.versions.keys n);
+      listed = λ s at. name_of_version it.packages.versions.keys n s (All-contains (IsVersionOf it.packages.versions.keys n.0) p.candidates s q.listed at);
+      favored = IfSome_then p.favored q.favored (name_of_version it.packages.versions.keys n);
+      locked = IfSome_then p.locked q.locked (name_of_version it.packages.versions.keys n);
       excluded = All-weaker (λ e. IsVersionOf it.packages.versions.keys n.0 e.0) (λ e. name_at it.packages.versions.keys e.0 ≡ n) (λ e.
-          named_of it.packages.versions.keys n e.0) p.excluded q.excluded;
+          name_of_version it.packages.versions.keys n e.0) p.excluded q.excluded;
       once = once_of p.candidates q.rising;
     }
 

@@ -1,6 +1,6 @@
 -- The universe of a catalog.
 use Rattle.std.specs.Prelude.{ℕ, Bool, not, ◌==◌, List, [], ◌∷◌, ◌++◌, Option, Some, None, slice_get, filter, map, codes, string_bytes, String}
-use Rattle.std.specs.Prelude.{Vec}
+use Rattle.std.specs.Prelude.{MatchBool, Vec}
 use Rattle.std.specs.Global.{Global}
 use Rattle.std.specs.Ordering.{nat_cmp}
 use Rattle.resolver_clause_store.specs.Universe.{Universe, Package, Needs, known, unknown, hint_none}
@@ -14,12 +14,13 @@ use Rattle.resolve.specs.declared.ids.Range.TheVariants.{All}
 use Rattle.resolve.specs.declared.ids.VersionSet.{VersionSet}
 use Rattle.resolve.specs.declared.ids.Version.{Version}
 use Rattle.resolve.specs.Solvables.{Solvable}
-use Rattle.resolve.specs.Listings.{Package as Listing}
+use Rattle.resolve.specs.Listings.{ListedPackage as Listing}
 use Rattle.resolve.specs.declared.catalog.Catalog.{Catalog}
+use Rattle.resolve.specs.declared.catalog.tables.PackageTable.{PackageTable}
 use Rattle.resolve.specs.Ranges.{range_takes, range_text}
 use Rattle.resolve.specs.Versions.{versions_text}
 use Rattle.resolver_clause_store.specs.Sorting.{sorted_by}
-use Rattle.resolve.specs.Packages.{name_at, version_at, preference}
+use Rattle.resolve.specs.Packages.{BecomesExcluded, IsDeclarationRefused, IsDeclared, IsExclusionRefused, name_at, version_at, preference}
 use Rattle.resolve.specs.Conditions.{condition_at}
 
 -- a version set; if there is none, all versions of the first package
@@ -34,9 +35,9 @@ abbrev pub members_of : Option (Vec VersionSetId Global) → List VersionSetId
 members_of None = []
 members_of (Some members) = members.items
 
-abbrev pub text_of : Option (String Global) → List ℕ
-text_of None = []
-text_of (Some text) = string_bytes text
+abbrev pub optional_text : Option (String Global) → List ℕ
+optional_text None = []
+optional_text (Some text) = string_bytes text
 
 -- the record of a package; if there is none, it lists nothing
 abbrev pub listing_of : Option Listing → Package SolvableId
@@ -69,7 +70,7 @@ rising_versions versions xs = sorted_by nat_cmp (map (version_at versions) xs)
 -- the name of the first solvable, and the versions of all of them
 abbrev pub merged_text_of : List (String Global) → List Version → List SolvableId → List ℕ
 merged_text_of names versions [] = []
-merged_text_of names versions (s ∷ others) = text_of (slice_get names (name_at versions s).0) ++ codes " " ++
+merged_text_of names versions (s ∷ others) = optional_text (slice_get names (name_at versions s).0) ++ codes " " ++
     versions_text (rising_versions versions (s ∷ others))
 
 abbrev pub same_solvable_ids : SolvableId → SolvableId → Bool
@@ -83,9 +84,9 @@ catalog_universe it = record {
   condition = λ i. condition_at it.conditions.conditions.items i;
   condition_rank = λ i. i.0;
   same_solvable = same_solvable_ids;
-  name_text = λ n. text_of (slice_get it.names.keys n.0);
+  name_text = λ n. optional_text (slice_get it.names.keys n.0);
   version_set_text = λ v. range_text (version_set_at it.version_sets.keys v).range;
-  string_text = λ r. text_of (slice_get it.strings.keys r.0);
+  string_text = λ r. optional_text (slice_get it.strings.keys r.0);
   merged_text = λ xs. merged_text_of it.names.keys it.packages.versions.keys xs;
   package_named = λ n. listing_of (slice_get it.packages.packages n.0);
   needs = λ s. needs_of_solvable (slice_get it.packages.solvables s.0);
@@ -93,6 +94,23 @@ catalog_universe it = record {
   others_of = λ xs v. left_out it.packages.versions.keys (version_set_at it.version_sets.keys v).range xs;
   sorted_of = sorted_by (preference it.packages.versions.keys);
 }
+
+-- the version was declared, or nothing changed
+abbrev pub DeclaresVersion : PackageTable → PackageTable → Version → Bool → Type 0
+DeclaresVersion old new version is_new = MatchBool is_new
+    (IsDeclared old.versions.keys new.versions.keys old.solvables new.solvables old.packages new.packages version)
+    (IsDeclarationRefused old.versions.keys new.versions.keys old.solvables new.solvables old.packages new.packages version)
+
+-- the solvable was excluded for the reason, or nothing changed
+abbrev pub ExcludesSolvable : PackageTable → PackageTable → SolvableId → StringId → Bool → Type 0
+ExcludesSolvable old new s reason is_new = MatchBool is_new
+    (BecomesExcluded old.versions.keys old.solvables new.solvables old.packages new.packages s reason)
+    (IsExclusionRefused old.versions.keys old.solvables new.solvables old.packages new.packages s)
+
+-- the package of the solvable was changed in one way, or the change was refused in the other
+abbrev pub ChangesPackage : (Done Refused : List Version → List Listing → List Listing → SolvableId → Type 0) → PackageTable → PackageTable → SolvableId → Bool → Type 0
+ChangesPackage Done Refused old new s is_done =
+    MatchBool is_done (Done old.versions.keys old.packages new.packages s) (Refused old.versions.keys old.packages new.packages s)
 
 -- the tables of a catalog
 abbrev pub names_in : Catalog → List (List ℕ)

@@ -1,5 +1,5 @@
 -- Tables of conditions.
-use Rattle.std.specs.Prelude.{◌≡◌, ◌++◌, ◌∷◌, [], ℕ, ◌<◌, List, Option, Some, None, length, slice_get}
+use Rattle.std.specs.Prelude.{◌≡◌, ◌++◌, ◌∷◌, [], ℕ, ◌<◌, List, MatchOption, Option, Some, None, length, slice_get}
 use Rattle.resolver_clause_store.specs.declared.ids.ConditionId.{ConditionId}
 use Rattle.resolver_clause_store.specs.declared.data.LogicalOperator.{LogicalOperator}
 use Rattle.resolver_clause_store.specs.declared.data.Condition.{Condition}
@@ -28,3 +28,7 @@ pub record IsJoined (conditions conditions' : List Condition) (operator : Logica
 pub record IsPartMissing (conditions conditions' : List Condition) (left right : ConditionId) : Type 0 where
   pub missing : left.0 < length conditions → right.0 < length conditions → ⊥
   pub kept : conditions' ≡ conditions
+
+-- the parts were joined, or one of them is missing
+abbrev pub JoinsParts : (conditions conditions' : List Condition) → LogicalOperator → (left right : ConditionId) → Option ConditionId → Type 0
+JoinsParts old new operator left right made = MatchOption made (IsPartMissing old new left right) (IsJoined old new operator left right)

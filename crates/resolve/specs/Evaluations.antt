@@ -1,5 +1,5 @@
 -- Conditions made from steps in postfix order, by a stack.
-use Rattle.std.specs.Prelude.{◌≡◌, ◌<◌, List, [], ◌∷◌, ◌++◌, Option, Some, None, length}
+use Rattle.std.specs.Prelude.{◌≡◌, ◌<◌, List, [], ◌∷◌, ◌++◌, MatchOption, Option, length}
 use Rattle.resolver_clause_store.specs.declared.ids.ConditionId.{ConditionId}
 use Rattle.resolver_clause_store.specs.declared.data.Condition.TheVariants.{Binary}
 use Rattle.resolver_clause_store.specs.declared.data.LogicalOperator.{LogicalOperator}
@@ -37,7 +37,6 @@ Evaluates (on_step wanted) before after = after ≡ pushed (with_guard before.ta
 Evaluates and_step before after = Joins And before after
 Evaluates or_step before after = Joins Or before after
 
--- there is a condition, and it is still to be set aside
-abbrev pub Makes : Option ConditionId → Tables → List ConditionId → Evaluated → Type 0
-Makes None t aside after = ⊥
-Makes (Some id) t aside after = after ≡ evaluated t (aside ++ id ∷ [])
+-- there is a condition for whatever the step leads to, and it is still to be set aside
+abbrev pub Makes : (Evaluated → Evaluated → Type 0) → Evaluated → Tables → List ConditionId → Option ConditionId → Type 0
+Makes Leads before t aside made = (after : Evaluated) → Leads before after → MatchOption made ⊥ (λ id. after ≡ evaluated t (aside ++ id ∷ []))

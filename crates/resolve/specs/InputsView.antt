@@ -18,8 +18,8 @@ input_in it = record {
 }
 
 -- the statement was added, or it is bad here
-abbrev pub Adds : Bool → Request → Request → Said → Type 0
-Adds added old new said = MatchBool added (after_one (input_in old) said ≡ Some (input_in new)) (after_one (input_in old) said ≡ None)
+abbrev pub AddsStatement : Request → Request → Said → Bool → Type 0
+AddsStatement old new said added = MatchBool added (after_one (input_in old) said ≡ Some (input_in new)) (after_one (input_in old) said ≡ None)
 
 -- the line is skipped, or it says a statement that is added
 abbrev pub ReadsLine : List ℕ → Input → Input → Type 0

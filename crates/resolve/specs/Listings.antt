@@ -6,24 +6,24 @@ use Rattle.resolve.specs.Links.{up_to}
 use Rattle.resolve.specs.declared.catalog.packages.Listing.{Listing}
 
 -- a package with its versions in the order of declaration
-pub record Package : Type 0 where
+pub record ListedPackage : Type 0 where
   pub candidates : List SolvableId
   pub favored : Option SolvableId
   pub locked : Option SolvableId
   pub excluded : List (SolvableId × StringId)
 
 -- a package of which nothing was declared
-abbrev pub no_versions : Package
+abbrev pub no_versions : ListedPackage
 no_versions = record { candidates = []; favored = None; locked = None; excluded = [] }
 
-abbrev pub with_candidate : Package → SolvableId → Package
+abbrev pub with_candidate : ListedPackage → SolvableId → ListedPackage
 with_candidate p s = record p { candidates = p.candidates ++ s ∷ [] }
 
-abbrev pub with_excluded : Package → SolvableId × StringId → Package
+abbrev pub with_excluded : ListedPackage → SolvableId × StringId → ListedPackage
 with_excluded p e = record p { excluded = p.excluded ++ e ∷ [] }
 
 -- what a listing says, where its lists are in these tables
-abbrev pub package_in : List (List SolvableId) → List (List (SolvableId × StringId)) → Listing → Package
+abbrev pub package_in : List (List SolvableId) → List (List (SolvableId × StringId)) → Listing → ListedPackage
 package_in candidates excluded listing = record {
   candidates = up_to candidates listing.candidates;
   favored = listing.favored;

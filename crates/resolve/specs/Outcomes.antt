@@ -17,8 +17,8 @@ use Rattle.resolve.specs.declared.run.Outcome.TheVariants.{Answer, Conflict}
 use Rattle.resolve.specs.Inputs.{IsFirstBad, IsInput}
 use Rattle.resolve.specs.InputsView.{input_in}
 use Rattle.resolve.specs.Meaning.{Input}
-use Rattle.resolve.specs.Runs.{IsAnswer, IsAnswerTo, IsMessage, IsMessageTo}
-use Rattle.resolve.specs.Universes.{demands_of, universe_in}
+use Rattle.resolve.specs.Runs.{IsAnswer, IsAnswerToBytes, IsMessage, IsMessageTo}
+use Rattle.resolve.specs.Universes.{input_demands, universe_in}
 
 -- the outcome's text is an answer to the input, or tells why there is none
 abbrev pub IsOutcomeIn : Input → Outcome → Type 0
@@ -26,7 +26,7 @@ IsOutcomeIn input (Answer text) = IsAnswer input (string_bytes text)
 IsOutcomeIn input (Conflict text) = IsMessage input (string_bytes text)
 
 abbrev pub IsOutcomeTo : List ℕ → Outcome → Type 0
-IsOutcomeTo bytes (Answer text) = IsAnswerTo bytes (string_bytes text)
+IsOutcomeTo bytes (Answer text) = IsAnswerToBytes bytes (string_bytes text)
 IsOutcomeTo bytes (Conflict text) = IsMessageTo bytes (string_bytes text)
 
 -- if the fault is a bad statement, it is the first one
@@ -44,14 +44,14 @@ abbrev pub IsReadTo : List ℕ → Result Request Fault → Type 0
 IsReadTo bytes read = MatchResult read (λ request. IsInput bytes (input_in request)) (IsFaultTo bytes)
 
 -- if the input has a conflict, its rules explain why
-abbrev pub IsExplained : {C : Type 0} → Input → UnsolvableOrCancelled Catalog C NameId SolvableId → Type 0
-IsExplained input (Unsolvable conflict) = Explains (universe_in input.tables) (demands_of input) (rules_in conflict)
-IsExplained input (Cancelled value) = ⊤
-IsExplained input (Exhausted e) = ⊤
+abbrev pub ExplainsConflict : {C : Type 0} → Input → UnsolvableOrCancelled Catalog C NameId SolvableId → Type 0
+ExplainsConflict input (Unsolvable conflict) = Explains (universe_in input.tables) (input_demands input) (rules_in conflict)
+ExplainsConflict input (Cancelled value) = ⊤
+ExplainsConflict input (Exhausted e) = ⊤
 
 -- the chosen solvables are an answer to the input
-abbrev pub IsChosen : Input → Vec SolvableId Global → Type 0
-IsChosen input chosen = (exempt : List SolvableId) × IsSoftAnswer (universe_in input.tables) (demands_of input) input.soft chosen.items exempt
+abbrev pub AnswersInput : Input → Vec SolvableId Global → Type 0
+AnswersInput input chosen = (exempt : List SolvableId) × IsSoftAnswer (universe_in input.tables) (input_demands input) input.soft chosen.items exempt
 
 abbrev pub IsSolved : {C : Type 0} → Input → Result (Vec SolvableId Global) (UnsolvableOrCancelled Catalog C NameId SolvableId) → Type 0
-IsSolved input answered = MatchResult answered (IsChosen input) (IsExplained input)
+IsSolved input answered = MatchResult answered (AnswersInput input) (ExplainsConflict input)

@@ -64,17 +64,17 @@ steps_outside (level ∷ levels) = steps_outside levels ++ steps_of_level level
 abbrev pub steps_of : State → List GuardStep
 steps_of s = steps_outside s.outside ++ (steps_of_level s.here ++ steps_of_part s.part)
 
-abbrev pub pending_of : Level → PendingOperators
-pending_of level = record { or = is_some level.or_left; and = is_some level.and_left }
+abbrev pub pending_operators : Level → PendingOperators
+pending_operators level = record { or = is_some level.or_left; and = is_some level.and_left }
 
 abbrev pub pending_outside : List Level → List PendingOperators
 pending_outside [] = []
-pending_outside (level ∷ levels) = pending_outside levels ++ pending_of level ∷ []
+pending_outside (level ∷ levels) = pending_outside levels ++ pending_operators level ∷ []
 
 -- the reading has the steps, the pending operators and the open parentheses of the state
 pub record Shows (it : Reading) (s : State) : Type 0 where
   pub steps : map step_seen it.steps.items ≡ steps_of s
-  pub pending : it.pending ≡ pending_of s.here
+  pub pending : it.pending ≡ pending_operators s.here
   pub outside : it.outside.items ≡ pending_outside s.outside
   pub part : it.wants_part ≡ not (is_some s.part)
 
@@ -98,7 +98,7 @@ RefusesWord before word Bad = (next : State) → Step before word next → ⊥
 RefusesWord before word (Exhausted e) = ⊤
 
 -- nothing is open, and the steps are those of all that was read
-pub record EndsWith (s : State) (steps : List ConditionStep) : Type 0 where
+pub record EndsWithSteps (s : State) (steps : List ConditionStep) : Type 0 where
   pub here : Level
   pub part : Guard
   pub is : s ≡ state [] here (Some part)

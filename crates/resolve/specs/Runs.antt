@@ -13,7 +13,7 @@ use Rattle.resolve.specs.Answers.{listing}
 use Rattle.resolve.specs.Catalogs.{Tables, same_solvable_ids}
 use Rattle.resolve.specs.Inputs.{IsFirstBad, IsInput}
 use Rattle.resolve.specs.Meaning.{Input}
-use Rattle.resolve.specs.Universes.{demands_of, universe_in}
+use Rattle.resolve.specs.Universes.{input_demands, universe_in}
 
 abbrev pub same_name_ids : NameId → NameId → Bool
 same_name_ids a b = a.0 == b.0
@@ -26,17 +26,17 @@ told t rules = message (universe_in t) (graph_of same_name_ids same_solvable_ids
 pub record IsAnswer (input : Input) (text : List ℕ) : Type 0 where
   pub chosen : List SolvableId
   pub exempt : List SolvableId
-  pub answer : IsSoftAnswer (universe_in input.tables) (demands_of input) input.soft chosen exempt
+  pub answer : IsSoftAnswer (universe_in input.tables) (input_demands input) input.soft chosen exempt
   pub is : text ≡ listing input.tables chosen
 
 -- the text is the message of rules that explain why there is no answer
 pub record IsMessage (input : Input) (text : List ℕ) : Type 0 where
   pub rules : List (Rule NameId SolvableId)
-  pub explain : Explains (universe_in input.tables) (demands_of input) rules
+  pub explain : Explains (universe_in input.tables) (input_demands input) rules
   pub is : text ≡ told input.tables rules
 
-abbrev pub IsAnswerTo : List ℕ → List ℕ → Type 0
-IsAnswerTo bytes text = (input : Input) × IsInput bytes input × IsAnswer input text
+abbrev pub IsAnswerToBytes : List ℕ → List ℕ → Type 0
+IsAnswerToBytes bytes text = (input : Input) × IsInput bytes input × IsAnswer input text
 
 abbrev pub IsMessageTo : List ℕ → List ℕ → Type 0
 IsMessageTo bytes text = (input : Input) × IsInput bytes input × IsMessage input text
@@ -50,6 +50,6 @@ AppendsFront old new text = (front : List ℕ) × (rest : List ℕ) × (text ≡
 
 -- what a run on these bytes ends with and writes
 pub record IsRun (bytes : List ℕ) (status : ℕ) (output output' errors errors' : Option (List ℕ)) : Type 0 where
-  pub answered : status ≡ 0 → (text : List ℕ) × IsAnswerTo bytes text × Appends output output' text
+  pub answered : status ≡ 0 → (text : List ℕ) × IsAnswerToBytes bytes text × Appends output output' text
   pub refused : status ≡ 1 → (text : List ℕ) × IsMessageTo bytes text × Appends output output' text
   pub bad : status ≡ 2 → (number : ℕ) × IsFirstBad bytes number × AppendsFront errors errors' (bad_text number)

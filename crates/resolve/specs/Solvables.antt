@@ -26,9 +26,9 @@ abbrev pub with_constraint : Solvable → VersionSetId → Solvable
 with_constraint s constraint = record s { constraints = s.constraints ++ constraint ∷ [] }
 
 -- the reason for which the requirements and constraints are unknown, if there is one
-abbrev pub reason_in : State → Option StringId
-reason_in (Known is_excluded) = None
-reason_in (Unknown is_excluded reason) = Some reason
+abbrev pub unknown_reason : State → Option StringId
+unknown_reason (Known is_excluded) = None
+unknown_reason (Unknown is_excluded reason) = Some reason
 
 -- whether the version is excluded
 abbrev pub excluded_in : State → Bool
@@ -36,15 +36,15 @@ excluded_in (Known is_excluded) = is_excluded
 excluded_in (Unknown is_excluded reason) = is_excluded
 
 -- what a row says, where its lists are in these tables
-abbrev pub solvable_in : List (List ConditionalRequirement) → List (List VersionSetId) → Row → Solvable
-solvable_in requirements constraints row = record {
+abbrev pub solvable_of_row : List (List ConditionalRequirement) → List (List VersionSetId) → Row → Solvable
+solvable_of_row requirements constraints row = record {
   requirements = up_to requirements row.requirements;
   constraints = up_to constraints row.constraints;
-  unknown = reason_in row.state;
+  unknown = unknown_reason row.state;
   is_excluded = excluded_in row.state;
 }
 
 -- the lists of a row are in tables of this length
-pub record IsWithin (requirements constraints : ℕ) (row : Row) : Type 0 where
+pub record IsRowWithin (requirements constraints : ℕ) (row : Row) : Type 0 where
   pub required : row.requirements ≤ requirements
   pub constrained : row.constraints ≤ constraints

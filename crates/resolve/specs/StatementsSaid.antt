@@ -18,7 +18,7 @@ use Rattle.resolve.specs.Guards.{AreNeed, ReadsGuard, RefusesGuard}
 use Rattle.resolve.specs.LineWords.{after_word, from_word, words_of}
 use Rattle.resolve.specs.Said.{Named, Need, Said}
 use Rattle.resolve.specs.Said.{declares, requires_for, constrains_for, unknown_for, favors, locks, excludes, requires_any, constrains_all, soft_one, soft_of}
-use Rattle.resolve.specs.Spelling.{Names, Needs, Says, without_end}
+use Rattle.resolve.specs.Spelling.{Names, Says, SpellsNeed, without_end}
 use Rattle.resolve.specs.Unions.{wanted_of}
 
 -- a solvable as the code has it
@@ -80,7 +80,7 @@ ReadsAs keyword rest (Ok statement) = (line : List ℕ) → Begins line keyword 
 ReadsAs keyword rest (Err e) = (line : List ℕ) → Begins line keyword rest → Refuses line e
 
 -- the text is a solvable and a reason
-pub record IsReasoned (text : List ℕ) (it : Named) (reason : List ℕ) : Type 0 where
+pub record IsSolvableWithReason (text : List ℕ) (it : Named) (reason : List ℕ) : Type 0 where
   pub word : List ℕ
   pub front : take 1 (words_of text) ≡ word ∷ []
   pub names : Names word it
@@ -90,11 +90,11 @@ pub record IsReasoned (text : List ℕ) (it : Named) (reason : List ℕ) : Type 
 
 -- the words were read as these specs and steps
 abbrev pub ReadsNeed : List (List ℕ) → List Spec → List ConditionStep → Type 0
-ReadsNeed words union steps = (need : Need) × Needs words need × AreNeed union steps need
+ReadsNeed words union steps = (need : Need) × SpellsNeed words need × AreNeed union steps need
 
 -- if the words are bad, they are no need
 abbrev pub RefusesNeed : List (List ℕ) → LineError → Type 0
-RefusesNeed words Bad = (need : Need) → Needs words need → ⊥
+RefusesNeed words Bad = (need : Need) → SpellsNeed words need → ⊥
 RefusesNeed words (Exhausted e) = ⊤
 
 -- a union ends with the line, or where there is no bar

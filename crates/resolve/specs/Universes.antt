@@ -35,5 +35,5 @@ universe_in t = record {
   sorted_of = sorted_by (preference t.versions);
 }
 
-abbrev pub demands_of : Input → Demands
-demands_of input = record { requirements = input.requirements; constraints = input.constraints }
+abbrev pub input_demands : Input → Demands
+input_demands input = record { requirements = input.requirements; constraints = input.constraints }

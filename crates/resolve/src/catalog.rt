@@ -2,7 +2,7 @@
 
 ghost use Rattle.std.specs.Prelude.{◌≡◌, ◌≤◌, IfErr, IfOk, IsTrue, OnOk, Some, length, slice_get};
 ghost use Rattle.std.proofs.Props.{props};
-ghost use Rattle.resolve.specs.Additions.{IsShortage};
+ghost use Rattle.resolve.specs.Additions.{IsTableShortage};
 ghost use Rattle.resolve.specs.Packages.{version_at};
 
 mod links;
@@ -61,7 +61,7 @@ impl Catalog {
     /// Returns the package of a name, which is added if it is new. Equal names share a package.
     pub fn name(&mut self, text: &str) -> Result<NameId, Exhausted>
         ensures kept { tables_in self.new ≡ record (tables_in self.old) { names = names_in self.new; packages = packages_in self.new } }
-        ensures refusal { IfErr result (IsShortage (length (names_in self.old))) }
+        ensures refusal { IfErr result (IsTableShortage (length (names_in self.old))) }
         ensures exact { OnOk result (tables_in self.new ≡ with_name (tables_in self.old) text.now) }
         ensures id { IfOk result (λ id. id ≡ name_id (tables_in self.old) text.now) }
     {
@@ -128,7 +128,7 @@ impl Catalog {
     pub fn version_set(&mut self, name: NameId, range: Range) -> Result<VersionSetId, Exhausted>
         ensures kept { tables_in self.new ≡ record (tables_in self.old) { version_sets = version_sets_in self.new } }
         ensures exact { IfOk result (λ id. Interns same_set (version_sets_in self.old) (version_sets_in self.new) (record { name = name; range = range }) id.0) }
-        ensures refusal { IfErr result (IsShortage (length (version_sets_in self.old))) }
+        ensures refusal { IfErr result (IsTableShortage (length (version_sets_in self.old))) }
     {
         let (place, _) = self.version_sets.insert_full(VersionSet { name, range })?;
         Ok(VersionSetId(id_of(place)?))
@@ -138,7 +138,7 @@ impl Catalog {
     pub fn union(&mut self, members: Vec<VersionSetId>) -> Result<VersionSetUnionId, Exhausted>
         ensures kept { tables_in self.new ≡ record (tables_in self.old) { unions = unions_in self.new } }
         ensures exact { IfOk result (λ id. Interns same_members (unions_in self.old) (unions_in self.new) members.items id.0) }
-        ensures refusal { IfErr result (IsShortage (length (unions_in self.old))) }
+        ensures refusal { IfErr result (IsTableShortage (length (unions_in self.old))) }
     {
         let (place, _) = self.unions.insert_full(members)?;
         Ok(VersionSetUnionId(id_of(place)?))
@@ -148,7 +148,7 @@ impl Catalog {
     pub fn string(&mut self, text: &str) -> Result<StringId, Exhausted>
         ensures kept { tables_in self.new ≡ record (tables_in self.old) { strings = strings_in self.new } }
         ensures exact { IfOk result (λ id. Interns bytes_eq (strings_in self.old) (strings_in self.new) text.now id.0) }
-        ensures refusal { IfErr result (IsShortage (length (strings_in self.old))) }
+        ensures refusal { IfErr result (IsTableShortage (length (strings_in self.old))) }
     {
         let key = String::from_str(self.alloc, text)?;
         let (place, _) = self.strings.insert_full(key)?;

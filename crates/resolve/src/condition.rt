@@ -47,7 +47,7 @@ struct Reading<'a> {
 }
 
 impl<'a> Reading<'a> {
-    ghost use Rattle.resolve.specs.Readings.{EndsWith, Level, RefusesEnd, RefusesWord, Shows, State, StepsTo, after_and, after_level, no_level, state};
+    ghost use Rattle.resolve.specs.Readings.{EndsWithSteps, Level, RefusesEnd, RefusesWord, Shows, State, StepsTo, after_and, after_level, no_level, state};
     ghost use Rattle.resolve.specs.Said.{Guard};
 
     fn new(alloc: Global) -> Reading<'a>
@@ -148,7 +148,7 @@ impl<'a> Reading<'a> {
     }
 
     fn finish(mut self) -> Result<Vec<ConditionStep<'a>>, LineError>
-        ensures ends { (s : State) → Shows self.entry s → IfOk result (λ steps. EndsWith s steps.items) }
+        ensures ends { (s : State) → Shows self.entry s → IfOk result (λ steps. EndsWithSteps s steps.items) }
         ensures bad { (s : State) → Shows self.entry s → IfErr result (RefusesEnd s) }
     {
         if self.wants_part || !self.outside.is_empty() {

@@ -114,9 +114,9 @@ impl From<Exhausted> for InputError {
 
 impl Request {
     ghost use Rattle.resolve.specs.Catalogs.{tables_in};
-    ghost use Rattle.resolve.specs.Evaluations.{Evaluated, Evaluates, Joins, Makes, evaluated};
+    ghost use Rattle.resolve.specs.Evaluations.{Evaluates, Joins, Makes, evaluated};
     ghost use Rattle.resolve.specs.Guards.{AreNeed, postfix, step_seen};
-    ghost use Rattle.resolve.specs.InputsView.{Adds, ReadsLine, RefusesLine, input_in};
+    ghost use Rattle.resolve.specs.InputsView.{AddsStatement, ReadsLine, RefusesLine, input_in};
     ghost use Rattle.resolve.specs.StatementsSaid.{IsStatementOf, named_of};
     ghost use Rattle.resolve.specs.Meaning.{last_condition, need_in, no_input, set_id, solvable_in, union_id, with_guard, with_need, with_set, with_union};
     ghost use Rattle.resolve.specs.Said.{Guard, Need, Said, constrains_all, constrains_for, declares, excludes, favors, locks, requires_any, requires_for};
@@ -160,7 +160,7 @@ impl Request {
     /// Adds a statement. Returns `false` if it is bad; it then declares and requires nothing.
     fn add(&mut self, statement: Statement<'_>) -> Result<bool, Exhausted>
         requires { AreTables (tables_in self.old.catalog) }
-        ensures adds { (said : Said) → IsStatementOf statement.entry said → IfOk result (λ added. Adds added self.old self.new said) }
+        ensures adds { (said : Said) → IsStatementOf statement.entry said → IfOk result (AddsStatement self.old self.new said) }
         ensures tables { (said : Said) → IsStatementOf statement.entry said → IfOk result (λ added. added ≡ true → AreTables (tables_in self.new.catalog)) }
     {
         match statement {
@@ -202,7 +202,7 @@ impl Request {
 
     fn declare(&mut self, solvable: SolvableText<'_>) -> Result<bool, Exhausted>
         requires { AreTables (tables_in self.old.catalog) }
-        ensures adds { IfOk result (λ added. Adds added self.old self.new (declares (named_of solvable.entry))) }
+        ensures adds { IfOk result (AddsStatement self.old self.new (declares (named_of solvable.entry))) }
         ensures refused { IfOk result (λ added. added ≡ false → input_in self.new ≡ input_in self.old) }
         ensures tables { OnOk result (AreTables (tables_in self.new.catalog)) }
     {
@@ -217,8 +217,8 @@ impl Request {
         condition: &[ConditionStep<'_>],
     ) -> Result<bool, Exhausted>
         requires { AreTables (tables_in self.old.catalog) }
-        ensures { (need : Need) → AreNeed union.entry.now condition.entry.now need → IfOk result (λ added.
-            Adds added self.old self.new (requires_for (named_of solvable.entry) need)) }
+        ensures { (need : Need) → AreNeed union.entry.now condition.entry.now need →
+            IfOk result (AddsStatement self.old self.new (requires_for (named_of solvable.entry) need)) }
     {
         let Some(solvable) = self.find(solvable) else {
             return Ok(false);
@@ -238,8 +238,7 @@ impl Request {
         spec: Spec<'_>,
     ) -> Result<bool, Exhausted>
         requires { AreTables (tables_in self.old.catalog) }
-        ensures { IfOk result (λ added. Adds added self.old self.new
-            (constrains_for (named_of solvable.entry) (wanted_of spec.entry))) }
+        ensures { IfOk result (AddsStatement self.old self.new (constrains_for (named_of solvable.entry) (wanted_of spec.entry))) }
     {
         let Some(solvable) = self.find(solvable) else {
             return Ok(false);
@@ -251,7 +250,7 @@ impl Request {
 
     fn set_unknown(&mut self, solvable: SolvableText<'_>, reason: &str) -> Result<bool, Exhausted>
         requires { AreTables (tables_in self.old.catalog) }
-        ensures { IfOk result (λ added. Adds added self.old self.new (unknown_for (named_of solvable.entry) reason.entry.now)) }
+        ensures { IfOk result (AddsStatement self.old self.new (unknown_for (named_of solvable.entry) reason.entry.now)) }
     {
         let Some(solvable) = self.find(solvable) else {
             return Ok(false);
@@ -262,7 +261,7 @@ impl Request {
 
     fn favor(&mut self, solvable: SolvableText<'_>) -> bool
         requires { AreTables (tables_in self.old.catalog) }
-        ensures { Adds result self.old self.new (favors (named_of solvable.entry)) }
+        ensures { AddsStatement self.old self.new (favors (named_of solvable.entry)) result }
     {
         match self.find(solvable) {
             None => false,
@@ -272,7 +271,7 @@ impl Request {
 
     fn lock(&mut self, solvable: SolvableText<'_>) -> bool
         requires { AreTables (tables_in self.old.catalog) }
-        ensures { Adds result self.old self.new (locks (named_of solvable.entry)) }
+        ensures { AddsStatement self.old self.new (locks (named_of solvable.entry)) result }
     {
         match self.find(solvable) {
             None => false,
@@ -282,7 +281,7 @@ impl Request {
 
     fn exclude(&mut self, solvable: SolvableText<'_>, reason: &str) -> Result<bool, Exhausted>
         requires { AreTables (tables_in self.old.catalog) }
-        ensures { IfOk result (λ added. Adds added self.old self.new (excludes (named_of solvable.entry) reason.entry.now)) }
+        ensures { IfOk result (AddsStatement self.old self.new (excludes (named_of solvable.entry) reason.entry.now)) }
     {
         let Some(solvable) = self.find(solvable) else {
             return Ok(false);
@@ -296,7 +295,7 @@ impl Request {
         union: &[Spec<'_>],
         condition: &[ConditionStep<'_>],
     ) -> Result<bool, Exhausted>
-        ensures { (need : Need) → AreNeed union.entry.now condition.entry.now need → IfOk result (λ added. Adds added self.old self.new (requires_any need)) }
+        ensures { (need : Need) → AreNeed union.entry.now condition.entry.now need → IfOk result (AddsStatement self.old self.new (requires_any need)) }
     {
         let Some(requirement) = self.requirement(union, condition)? else {
             return Ok(false);
@@ -306,7 +305,7 @@ impl Request {
     }
 
     fn constrain(&mut self, spec: Spec<'_>) -> Result<bool, Exhausted>
-        ensures { IfOk result (λ added. Adds added self.old self.new (constrains_all (wanted_of spec.entry))) }
+        ensures { IfOk result (AddsStatement self.old self.new (constrains_all (wanted_of spec.entry))) }
     {
         let version_set = self.version_set(spec)?;
         self.constraints.push(version_set)?;
@@ -316,7 +315,7 @@ impl Request {
     /// Adds a soft requirement of a solvable. Returns `false` if it was not declared.
     fn add_soft_requirement(&mut self, solvable: SolvableText<'_>) -> Result<bool, Exhausted>
         requires { AreTables (tables_in self.old.catalog) }
-        ensures { IfOk result (λ added. Adds added self.old self.new (soft_one (named_of solvable.entry))) }
+        ensures { IfOk result (AddsStatement self.old self.new (soft_one (named_of solvable.entry))) }
     {
         let Some(found) = self.catalog.find_solvable(solvable.name, solvable.version) else {
             return Ok(false);
@@ -328,7 +327,7 @@ impl Request {
 
     /// Adds a soft requirement of a version set. It is not bad if the package has no candidates.
     fn add_soft_version_set(&mut self, spec: Spec<'_>) -> Result<bool, Exhausted>
-        ensures { IfOk result (λ added. Adds added self.old self.new (soft_of (wanted_of spec.entry))) }
+        ensures { IfOk result (AddsStatement self.old self.new (soft_of (wanted_of spec.entry))) }
     {
         let version_set = self.version_set(spec)?;
         self.soft_requirements
@@ -424,8 +423,8 @@ impl Request {
         step: ConditionStep<'_>,
     ) -> Result<Option<ConditionId>, Exhausted>
         ensures only { self.new ≡ record self.old { catalog = self.new.catalog } }
-        ensures evaluates { (after : Evaluated) → Evaluates (step_seen step.entry) (evaluated (tables_in self.old.catalog) aside.old.items) after →
-            IfOk result (λ made. Makes made (tables_in self.new.catalog) aside.new.items after) }
+        ensures evaluates { IfOk result (Makes (Evaluates (step_seen step.entry)) (evaluated (tables_in self.old.catalog) aside.old.items)
+            (tables_in self.new.catalog) aside.new.items) }
     {
         match step {
             ConditionStep::Version(spec) => {
@@ -444,8 +443,8 @@ impl Request {
         operator: LogicalOperator,
     ) -> Result<Option<ConditionId>, Exhausted>
         ensures only { self.new ≡ record self.old { catalog = self.new.catalog } }
-        ensures joins { (after : Evaluated) → Joins operator (evaluated (tables_in self.old.catalog) aside.old.items) after →
-            IfOk result (λ made. Makes made (tables_in self.new.catalog) aside.new.items after) }
+        ensures joins { IfOk result (Makes (Joins operator) (evaluated (tables_in self.old.catalog) aside.old.items)
+            (tables_in self.new.catalog) aside.new.items) }
     {
         let Some(right) = aside.pop() else {
             return Ok(None);

@@ -10,7 +10,7 @@ ghost use Rattle.resolve.specs.Catalogs.{tables_in};
 ghost use Rattle.resolve.specs.Faults.{IsFaultTold, exhausted_text, fault_of, fault_text_of, status_of};
 ghost use Rattle.resolve.specs.InputsView.{input_in};
 ghost use Rattle.resolve.specs.Meaning.{Input};
-ghost use Rattle.resolve.specs.Outcomes.{IsExplained, IsFaultTo, IsOutcomeIn, IsOutcomeTo, IsReadTo, IsSolved, IsToldTo};
+ghost use Rattle.resolve.specs.Outcomes.{ExplainsConflict, IsFaultTo, IsOutcomeIn, IsOutcomeTo, IsReadTo, IsSolved, IsToldTo};
 ghost use Rattle.resolve.specs.Runs.{AppendsFront, IsRun, bad_text, told};
 
 use crate::answer::answer_text;
@@ -325,7 +325,7 @@ fn refusal_of(
     solver: &Solver<Catalog>,
     why: &UnsolvableOrCancelled<Catalog>,
 ) -> Result<Outcome, Fault>
-    ensures outcome { (input : Input) → tables_in (provider_in solver.now) ≡ input.tables → IsExplained input why.now → IfOk result (IsOutcomeIn input) }
+    ensures outcome { (input : Input) → tables_in (provider_in solver.now) ≡ input.tables → ExplainsConflict input why.now → IfOk result (IsOutcomeIn input) }
     ensures fault { (bytes : List ℕ) → IfErr result (IsFaultTo bytes) }
 {
     match why {

@@ -1,6 +1,6 @@
 //! Statements, one on each line.
 
-ghost use Rattle.std.specs.Prelude.{◌≡◌, ◌≢◌, ◌==◌, ◌<◌, ◌↔◌, None, IfOk, IfErr, IfSome, length, not};
+ghost use Rattle.std.specs.Prelude.{◌≡◌, ◌≢◌, ◌==◌, ◌<◌, ◌↔◌, None, IfOk, IfErr, IfNone, IfSome, length, not};
 ghost use Rattle.std.specs.List.{find};
 ghost use Rattle.resolver_clause_store.specs.declared.data.Exhausted.TheVariants.{Memory};
 ghost use Rattle.resolve.specs.declared.statement.LineError.TheVariants.{Exhausted as RanOut};
@@ -12,7 +12,7 @@ ghost use Rattle.resolve.specs.LineWords.{after_word, from_word};
 ghost use Rattle.resolve.specs.Spelling.{Names, Wants, without_end};
 ghost use Rattle.resolve.specs.Unions.{ReadsUnion, RefusesUnion, wanted_of};
 ghost use Rattle.resolve.specs.WordsView.{line_left, words_left};
-ghost use Rattle.resolve.specs.StatementsSaid.{IsReasoned, Reads, ReadsAs, ReadsIf, ReadsNeed, Refuses, RefusesIf, RefusesNeed};
+ghost use Rattle.resolve.specs.StatementsSaid.{IsSolvableWithReason, Reads, ReadsAs, ReadsIf, ReadsNeed, Refuses, RefusesIf, RefusesNeed};
 ghost use Rattle.resolve.specs.StatementsSaid.{StatesAs, UnionEnds, named_of, spelled};
 
 use crate::condition::{ConditionStep, parse_condition};
@@ -312,8 +312,8 @@ fn parse_exclude(words: Words<'_>) -> Option<Statement<'_>>
 
 /// Parses a solvable, and the rest of the line as a reason.
 fn parse_reasoned(mut words: Words<'_>) -> Option<(SolvableText<'_>, &str)>
-    ensures { MatchOption result ((it : Named) (reason : List ℕ) → IsReasoned (line_left words.entry) it reason → ⊥)
-        (λ parts. IsReasoned (line_left words.entry) (named_of parts.0) parts.1.now) }
+    ensures read { IfSome result (λ parts. IsSolvableWithReason (line_left words.entry) (named_of parts.0) parts.1.now) }
+    ensures none { IfNone result ((it : Named) (reason : List ℕ) → IsSolvableWithReason (line_left words.entry) it reason → ⊥) }
 {
     let Some(solvable) = next_solvable(&mut words) else {
         return None;
@@ -325,9 +325,8 @@ fn parse_reasoned(mut words: Words<'_>) -> Option<(SolvableText<'_>, &str)>
 }
 
 fn next_solvable<'a>(words: &mut Words<'a>) -> Option<SolvableText<'a>>
-    ensures exact { MatchOption result ((word : List ℕ) (more : List (List ℕ)) (it : Named) → words_left words.old ≡ word ∷ more → Names word it → ⊥)
-        (λ solvable. (word : List ℕ) × (words_left words.old ≡ word ∷ words_left words.new) ×
-        Names word (record { name = solvable.name.now; version = solvable.version })) }
+    ensures read { IfSome result (λ solvable. (word : List ℕ) × (words_left words.old ≡ word ∷ words_left words.new) × Names word (named_of solvable)) }
+    ensures none { IfNone result ((word : List ℕ) (more : List (List ℕ)) (it : Named) → words_left words.old ≡ word ∷ more → Names word it → ⊥) }
     ensures rest { IfSome result (λ _. line_left words.new ≡ after_word (line_left words.old)) }
 {
     let Some(word) = words.take_word() else {
@@ -338,8 +337,8 @@ fn next_solvable<'a>(words: &mut Words<'a>) -> Option<SolvableText<'a>>
 
 /// Parses the next word as a solvable, if it is the last word.
 fn last_solvable(mut words: Words<'_>) -> Option<SolvableText<'_>>
-    ensures { MatchOption result ((word : List ℕ) (it : Named) → words_left words.entry ≡ word ∷ [] → Names word it → ⊥)
-        (λ solvable. (word : List ℕ) × (words_left words.entry ≡ word ∷ []) × Names word (record { name = solvable.name.now; version = solvable.version })) }
+    ensures read { IfSome result (λ solvable. (word : List ℕ) × (words_left words.entry ≡ word ∷ []) × Names word (named_of solvable)) }
+    ensures none { IfNone result ((word : List ℕ) (it : Named) → words_left words.entry ≡ word ∷ [] → Names word it → ⊥) }
 {
     let Some(solvable) = next_solvable(&mut words) else {
         return None;
@@ -352,8 +351,8 @@ fn last_solvable(mut words: Words<'_>) -> Option<SolvableText<'_>>
 
 /// Parses the next word as a spec, if it is the last word.
 fn last_spec(mut words: Words<'_>) -> Option<Spec<'_>>
-    ensures { MatchOption result ((word : List ℕ) (it : Wanted) → words_left words.entry ≡ word ∷ [] → Wants word it → ⊥)
-        (λ spec. (word : List ℕ) × (words_left words.entry ≡ word ∷ []) × Wants word (wanted_of spec)) }
+    ensures read { IfSome result (λ spec. (word : List ℕ) × (words_left words.entry ≡ word ∷ []) × Wants word (wanted_of spec)) }
+    ensures none { IfNone result ((word : List ℕ) (it : Wanted) → words_left words.entry ≡ word ∷ [] → Wants word it → ⊥) }
 {
     let Ok(spec) = next_spec(&mut words) else {
         return None;
@@ -366,8 +365,8 @@ fn last_spec(mut words: Words<'_>) -> Option<Spec<'_>>
 
 /// Parses a reason: a text without the spaces around it, which is not empty.
 fn parse_reason(text: &[u8]) -> Option<&str>
-    ensures { MatchOption result (0 < length (without_end (from_word text.now)) → IsUtf8 (without_end (from_word text.now)) → ⊥)
-        (λ reason. (reason.now ≡ without_end (from_word text.now)) × (0 < length reason.now) × IsUtf8 reason.now) }
+    ensures read { IfSome result (λ reason. (reason.now ≡ without_end (from_word text.now)) × (0 < length reason.now) × IsUtf8 reason.now) }
+    ensures none { IfNone result (0 < length (without_end (from_word text.now)) → IsUtf8 (without_end (from_word text.now)) → ⊥) }
 {
     let reason = without_spaces_around(text);
     if reason.is_empty() {

@@ -11,7 +11,7 @@ use Rattle.resolver_clause_store.specs.declared.clauses.StoredRequirement.{Store
 use Rattle.resolver_clause_store.specs.declared.last_open.LastOpen.{LastOpen}
 use Rattle.resolver_clause_store.specs.declared.trail.Slot.{Slot}
 use Rattle.resolver_clause_store.specs.declared.trail.Trail.{Trail}
-use Rattle.resolver_clause_store.specs.Decisions.{IsFirst}
+use Rattle.resolver_clause_store.specs.Decisions.{IsFirstUnassigned}
 use Rattle.resolver_clause_store.specs.Formula.{clause_at}
 use Rattle.resolver_clause_store.specs.LastOpens.{IsFirstNotFalse, IsLastOpen, IsOpenSince, NoneIsTrueFrom}
 use Rattle.resolver_clause_store.specs.Outcomes.{IsFalseBefore, IsMet}
@@ -34,7 +34,7 @@ negative-false trail clause unmet k d below negated = by_value (literal_value tr
     by_value (Some false) is = refl
 
 -- a requirement that is left to decide now
-pub open-now : (trail : Trail) (clause : List Literal) (first : ℕ) → IsFirst trail clause first → IsOpenSince trail clause first (length_of trail)
+pub open-now : (trail : Trail) (clause : List Literal) (first : ℕ) → IsFirstUnassigned trail clause first → IsOpenSince trail clause first (length_of trail)
 open-now trail clause first is = record {
   before = λ k d below. false-before trail (get_or clause k d) (is.false_before k d below);
   negative = λ k d below negated. false-before trail (get_or clause k d) (negative-false trail clause is.unmet k d below negated);
@@ -87,7 +87,7 @@ module _ (trail : Trail) (clause : List Literal) (first count : ℕ) (h : IsOpen
           ap (λ b. literal_value trail (record { variable = l.variable; positive = b })) (sym sign) ∙ is_so in
           none.each v.0.place (h.unmet k d v.0 below v.1 is_so) listed.0 here
 
-  pub open-still : (place : ℕ) → IsFirstNotFalse trail clause first place → IsFirst trail clause place
+  pub open-still : (place : ℕ) → IsFirstNotFalse trail clause first place → IsFirstUnassigned trail clause place
   open-still place scan = record {
     within = scan.within;
     positive = λ d. positive-there d (get_or clause place d).positive refl;

@@ -16,7 +16,7 @@ use Rattle.resolver_clause_store.specs.Literals.{Literal}
 use Rattle.resolver_clause_store.specs.declared.clauses.StoredRequirement.{StoredRequirement}
 use Rattle.resolver_clause_store.specs.declared.trail.Slot.{Slot}
 use Rattle.resolver_clause_store.specs.declared.trail.Trail.{Trail}
-use Rattle.resolver_clause_store.specs.Decisions.{IsFirst}
+use Rattle.resolver_clause_store.specs.Decisions.{IsFirstUnassigned}
 use Rattle.resolver_clause_store.specs.Formula.{clause_at}
 use Rattle.resolver_clause_store.specs.LastOpens.{IsLastOpen, IsOpenSince}
 use Rattle.resolver_clause_store.specs.Outcomes.{IsMet}
@@ -138,7 +138,7 @@ queued-grown it trail table more requirements inside same queued = record {
 -- a requirement is found left to decide
 last-found : (trail : Trail) (table : List (List Literal)) (requirements : List StoredRequirement) (d : StoredRequirement) (last : LastOpen) (kept : ℕ) →
     last.count ≡ length_of trail → last.requirement < length requirements →
-    IsFirst trail (clause_at table (get_or requirements last.requirement d).number) last.first → kept ≡ length_of trail →
+    IsFirstUnassigned trail (clause_at table (get_or requirements last.requirement d).number) last.first → kept ≡ length_of trail →
     IsLastOpen last kept trail table requirements
 last-found trail table requirements d last kept count inside first all = record {
   inside = inside;
@@ -152,7 +152,7 @@ last-found trail table requirements d last kept count inside first all = record 
 pub queued-open : (old new : DecideQueue) (trail : Trail) (table : List (List Literal)) (requirements : List StoredRequirement) (d : StoredRequirement)
     (last : LastOpen) → new.active.items ≡ old.active.items → new.inactive ≡ old.inactive → new.met ≡ old.met →
     new.followed.items ≡ old.followed.items → new.kept ≡ old.kept → new.last ≡ Some last → last.count ≡ length_of trail →
-    last.requirement < length requirements → IsFirst trail (clause_at table (get_or requirements last.requirement d).number) last.first →
+    last.requirement < length requirements → IsFirstUnassigned trail (clause_at table (get_or requirements last.requirement d).number) last.first →
     old.kept ≡ length_of trail → IsQueued old trail table requirements → IsQueued new trail table requirements
 queued-open old new trail table requirements d last active inactive met followed kept found count inside first all it = record {
   following = following-same old new trail followed kept it.following;

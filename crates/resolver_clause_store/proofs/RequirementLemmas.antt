@@ -1,15 +1,15 @@
 -- Each candidate of a requirement matches one of its version sets.
 use Rattle.std.proofs.Common.{◌≡◌, List, [], ◌∷◌, Bool, cond, not, ◌∙◌, subst, ⊎_elim, Contains}
 use Rattle.std.specs.Prelude.{Option, Some, None, filter}
-use Rattle.std.specs.List.{list_any}
+use Rattle.std.specs.List.{flat_map, list_any}
 use Rattle.std.proofs.lemmas.Bool.{cases_Bool}
 use Rattle.std.proofs.lemmas.List.Elements.{Contains-append_cases}
 use Rattle.std.proofs.lemmas.List.Folds.{Any-from_list_any}
 use Rattle.std.proofs.lemmas.List.Sorted.{Contains-permutation, IsPermutation-sym}
 use Rattle.resolver_clause_store.specs.Laws.{IsIdentity, HasLawfulPackages}
-use Rattle.resolver_clause_store.specs.Lists.{IsCut, cut_none, cut_left, cut_right, without_repeats, moved_to_front}
+use Rattle.resolver_clause_store.specs.Lists.{IsInterleaving, interleave_none, interleave_left, interleave_right, without_repeats, moved_to_front}
 use Rattle.resolver_clause_store.specs.Universe.{Universe}
-use Rattle.resolver_clause_store.specs.Candidates.{matching, others, favored_first, sorted_candidates, sorted_in_order, requirement_candidates, version_sets}
+use Rattle.resolver_clause_store.specs.Candidates.{matching, others, favored_first, sorted_candidates, requirement_candidates, version_sets}
 use Rattle.resolver_clause_store.specs.declared.ids.VersionSetId.{VersionSetId}
 use Rattle.resolver_clause_store.specs.declared.data.Requirement.{Requirement}
 use Rattle.resolver_clause_store.proofs.ListLemmas.{Contains-cons_cases, Contains-filter, Contains-here, Contains-none, Contains-there}
@@ -37,18 +37,18 @@ Contains-moved_to_front {X} same identity y xs x h =
     (cases_Bool (list_any (λ z. same z y) xs))
 
 -- each element of a part of a cut list is in the list
-pub Contains-cut_left : {X : Type 0} {xs ys zs : List X} → IsCut xs ys zs → (x : X) → Contains ys x → Contains xs x
-Contains-cut_left cut_none x h = h
-Contains-cut_left {X} (cut_left {x = y} {xs = xs} {ys = ys} rest) x h = ⊎_elim
+pub Contains-cut_left : {X : Type 0} {xs ys zs : List X} → IsInterleaving xs ys zs → (x : X) → Contains ys x → Contains xs x
+Contains-cut_left interleave_none x h = h
+Contains-cut_left {X} (interleave_left {x = y} {xs = xs} {ys = ys} rest) x h = ⊎_elim
     (λ is. let P : X → Type 0 = λ q. Contains (y ∷ xs) q in subst P is (Contains-here y xs))
     (λ t. Contains-there y xs x (Contains-cut_left rest x t))
     (Contains-cons_cases y ys x h)
-Contains-cut_left (cut_right {x = y} {xs = xs} rest) x h = Contains-there y xs x (Contains-cut_left rest x h)
+Contains-cut_left (interleave_right {x = y} {xs = xs} rest) x h = Contains-there y xs x (Contains-cut_left rest x h)
 
-pub Contains-cut_right : {X : Type 0} {xs ys zs : List X} → IsCut xs ys zs → (x : X) → Contains zs x → Contains xs x
-Contains-cut_right cut_none x h = h
-Contains-cut_right (cut_left {x = y} {xs = xs} rest) x h = Contains-there y xs x (Contains-cut_right rest x h)
-Contains-cut_right {X} (cut_right {x = y} {xs = xs} {zs = zs} rest) x h = ⊎_elim
+pub Contains-cut_right : {X : Type 0} {xs ys zs : List X} → IsInterleaving xs ys zs → (x : X) → Contains zs x → Contains xs x
+Contains-cut_right interleave_none x h = h
+Contains-cut_right (interleave_left {x = y} {xs = xs} rest) x h = Contains-there y xs x (Contains-cut_right rest x h)
+Contains-cut_right {X} (interleave_right {x = y} {xs = xs} {zs = zs} rest) x h = ⊎_elim
     (λ is. let P : X → Type 0 = λ q. Contains (y ∷ xs) q in subst P is (Contains-here y xs))
     (λ t. Contains-there y xs x (Contains-cut_right rest x t))
     (Contains-cons_cases y zs x h)
@@ -80,16 +80,17 @@ module _ {N S : Type 0} (u : Universe N S) (packages : HasLawfulPackages u) wher
         (IsPermutation-sym (matching u v) (u.sorted_of (matching u v)) (packages.sort_permutes (matching u v)))
         (favored_back (u.package_named (u.version_set_name v)).favored (u.sorted_of (matching u v)) s h)
 
-    in_order_matches : (vs : List VersionSetId) (s : S) → Contains (sorted_in_order u vs) s → (v : VersionSetId) × Contains vs v × Contains (matching u v) s
+    in_order_matches : (vs : List VersionSetId) (s : S) → Contains (flat_map (sorted_candidates u) vs) s →
+        (v : VersionSetId) × Contains vs v × Contains (matching u v) s
     in_order_matches [] s h = absurd (Contains-none s h)
     in_order_matches (v ∷ vs) s h = ⊎_elim
         (λ a. (v, Contains-here v vs, sorted_matches v s a))
         (λ b. let w = in_order_matches vs s b in (w.0, Contains-there v vs w.0 w.1, w.2))
-        (Contains-append_cases (sorted_candidates u v) (sorted_in_order u vs) s h)
+        (Contains-append_cases (sorted_candidates u v) (flat_map (sorted_candidates u) vs) s h)
 
     -- a candidate matches a version set of the requirement
     pub candidate_matches : (r : Requirement) (s : S) → Contains (requirement_candidates u r) s → (v : VersionSetId) × Contains (version_sets u r) v ×
         Contains (matching u v) s
     candidate_matches (Single v) s h = (v, Contains-here v [], sorted_matches v s h)
     candidate_matches (Union m) s h =
-        in_order_matches (u.union_members m) s (Contains-without_repeats u.same_solvable (sorted_in_order u (u.union_members m)) s h)
+        in_order_matches (u.union_members m) s (Contains-without_repeats u.same_solvable (flat_map (sorted_candidates u) (u.union_members m)) s h)

@@ -10,7 +10,7 @@ use Rattle.resolver_clause_store.specs.declared.slots.StoredValue.TheVariants.{O
 use Rattle.resolver_clause_store.specs.declared.trail.Reason.{Reason}
 use Rattle.resolver_clause_store.specs.declared.trail.Slot.{Slot}
 use Rattle.resolver_clause_store.specs.Slots.{slot_in}
-use Rattle.resolver_clause_store.specs.StoredSlots.{reason_from, slot_with, slots_in, value_of}
+use Rattle.resolver_clause_store.specs.StoredSlots.{reason_from, slot_with, slots_in, value_stored}
 
 pub length-slots_in : (values : List StoredValue) (stored : List StoredSlot) → length values ≡ length stored → length (slots_in values stored) ≡ length stored
 length-slots_in [] [] even = refl
@@ -19,7 +19,7 @@ length-slots_in (v ∷ values) [] even = absurd (omega (arith, even))
 length-slots_in (v ∷ values) (s ∷ stored) even = ap suc (length-slots_in values stored (omega (arith, even)))
 
 pub slots_in-at : (values : List StoredValue) (stored : List StoredSlot) (i : ℕ) (v : StoredValue) (s : StoredSlot) → length values ≡ length stored →
-    i < length stored → get_or (slots_in values stored) i None ≡ slot_with (value_of (get_or values i v)) (get_or stored i s)
+    i < length stored → get_or (slots_in values stored) i None ≡ slot_with (value_stored (get_or values i v)) (get_or stored i s)
 slots_in-at [] [] i v s even within = absurd (omega (arith, within))
 slots_in-at [] (t ∷ stored) i v s even within = absurd (omega (arith, even))
 slots_in-at (w ∷ values) [] i v s even within = absurd (omega (arith, within))
@@ -27,13 +27,13 @@ slots_in-at (w ∷ values) (t ∷ stored) zero v s even within = refl
 slots_in-at (w ∷ values) (t ∷ stored) (suc i) v s even within = slots_in-at values stored i v s (omega (arith, even)) (omega (arith, within))
 
 pub slots_in-set : (values : List StoredValue) (stored : List StoredSlot) (i : ℕ) (v : StoredValue) (s : StoredSlot) → length values ≡ length stored →
-    slots_in (set values i v) (set stored i s) ≡ set (slots_in values stored) i (slot_with (value_of v) s)
+    slots_in (set values i v) (set stored i s) ≡ set (slots_in values stored) i (slot_with (value_stored v) s)
 slots_in-set [] [] i v s even = refl
 slots_in-set [] (t ∷ stored) i v s even = absurd (omega (arith, even))
 slots_in-set (w ∷ values) [] i v s even = absurd (omega (arith, even))
 slots_in-set (w ∷ values) (t ∷ stored) zero v s even = refl
 slots_in-set (w ∷ values) (t ∷ stored) (suc i) v s even =
-    ap (λ (slots : List (Option Slot)). slot_with (value_of w) t ∷ slots) (slots_in-set values stored i v s (omega (arith, even)))
+    ap (λ (slots : List (Option Slot)). slot_with (value_stored w) t ∷ slots) (slots_in-set values stored i v s (omega (arith, even)))
 
 pub slots_in-clear : (values : List StoredValue) (stored : List StoredSlot) (i : ℕ) → length values ≡ length stored →
     slots_in (set values i Open) stored ≡ set (slots_in values stored) i None
@@ -42,7 +42,7 @@ slots_in-clear [] (t ∷ stored) i even = absurd (omega (arith, even))
 slots_in-clear (w ∷ values) [] i even = absurd (omega (arith, even))
 slots_in-clear (w ∷ values) (t ∷ stored) zero even = refl
 slots_in-clear (w ∷ values) (t ∷ stored) (suc i) even =
-    ap (λ (slots : List (Option Slot)). slot_with (value_of w) t ∷ slots) (slots_in-clear values stored i (omega (arith, even)))
+    ap (λ (slots : List (Option Slot)). slot_with (value_stored w) t ∷ slots) (slots_in-clear values stored i (omega (arith, even)))
 
 slots_in-open : (count : ℕ) (s : StoredSlot) → slots_in (replicate count Open) (replicate count s) ≡ replicate count None
 slots_in-open zero s = refl
@@ -54,7 +54,7 @@ slots_in-append [] more [] others even = refl
 slots_in-append [] more (t ∷ stored) others even = absurd (omega (arith, even))
 slots_in-append (w ∷ values) more [] others even = absurd (omega (arith, even))
 slots_in-append (w ∷ values) more (t ∷ stored) others even =
-    ap (λ (slots : List (Option Slot)). slot_with (value_of w) t ∷ slots) (slots_in-append values more stored others (omega (arith, even)))
+    ap (λ (slots : List (Option Slot)). slot_with (value_stored w) t ∷ slots) (slots_in-append values more stored others (omega (arith, even)))
 
 -- both tables grew to the same length
 pub slots_in-grown : (values new : List StoredValue) (stored after : List StoredSlot) (count : ℕ) (s : StoredSlot) → length values ≡ length stored →
@@ -86,28 +86,28 @@ module _ (values : List StoredValue) (stored : List StoredSlot) (slots : List (O
     pub within-values : i < length values
     within-values = omega (arith, within, length-view, even)
 
-    slot_in-view : (v : StoredValue) (s : StoredSlot) → slot_in slots i ≡ slot_with (value_of (get_or values i v)) (get_or stored i s)
+    slot_in-view : (v : StoredValue) (s : StoredSlot) → slot_in slots i ≡ slot_with (value_stored (get_or values i v)) (get_or stored i s)
     slot_in-view v s = ap (λ xs. slot_in xs i) (sym view) ∙ slots_in-at values stored i v s even within-stored
 
-    pub value-read : (result : Option Bool) (v : StoredValue) → v ≡ get_or values i v → result ≡ value_of v →
+    pub value-read : (result : Option Bool) (v : StoredValue) → v ≡ get_or values i v → result ≡ value_stored v →
         result ≡ option_map (λ (slot : Slot). slot.value) (slot_in slots i)
     value-read result v is read =
         let s : StoredSlot = record { level = 0; place = 0; number = 0; cause = Assumed } in
-        read ∙ ap value_of is ∙ sym (ap (λ o. option_map (λ (slot : Slot). slot.value) o) (slot_in-view v s) ∙ slot_with-value _ (get_or stored i s))
+        read ∙ ap value_stored is ∙ sym (ap (λ o. option_map (λ (slot : Slot). slot.value) o) (slot_in-view v s) ∙ slot_with-value _ (get_or stored i s))
 
     pub slot-read : (result : Option Slot) (value : Option Bool) (s : StoredSlot) → s ≡ get_or stored i s →
         value ≡ option_map (λ (slot : Slot). slot.value) (slot_in slots i) → result ≡ slot_with value s → result ≡ slot_in slots i
     slot-read result value s is valued read =
         let at = slot_in-view Open s in
         read ∙ ap (λ o. slot_with o s) (valued ∙ ap (λ o. option_map (λ (slot : Slot). slot.value) o) at ∙ slot_with-value _ (get_or stored i s)) ∙
-        ap (λ t. slot_with (value_of (get_or values i Open)) t) is ∙ sym at
+        ap (λ t. slot_with (value_stored (get_or values i Open)) t) is ∙ sym at
 
-  pub view-put : (v : StoredValue) (cause : Cause) (number : ℕ) (slot : Slot) → value_of v ≡ Some slot.value → reason_from cause number ≡ slot.reason →
+  pub view-put : (v : StoredValue) (cause : Cause) (number : ℕ) (slot : Slot) → value_stored v ≡ Some slot.value → reason_from cause number ≡ slot.reason →
       slots_in (set values i v) (set stored i (record { level = slot.level; place = slot.place; number = number; cause = cause })) ≡
       set slots i (Some slot)
   view-put v cause number slot valued reasoned =
       let s : StoredSlot = record { level = slot.level; place = slot.place; number = number; cause = cause } in
-      let made : slot_with (value_of v) s ≡ Some slot = ap (λ o. slot_with o s) valued ∙
+      let made : slot_with (value_stored v) s ≡ Some slot = ap (λ o. slot_with o s) valued ∙
       ap (λ (r : Reason). Some (record { value = slot.value; level = slot.level; place = slot.place; reason = r })) reasoned in
       slots_in-set values stored i v s even ∙ ap (λ o. set (slots_in values stored) i o) made ∙ ap (λ xs. set xs i (Some slot)) view
 

@@ -2,12 +2,13 @@
 use Rattle.std.proofs.Common.{◌≡◌, ◌∙◌, ℕ, ◌+◌, ◌<◌, Bool, true, false, cond, not, ◌||◌, List, [], ◌∷◌, ◌++◌, length, take, get_or, refl, sym, ap, subst}
 use Rattle.std.proofs.Common.{append_assoc, append-nil, ◌≤◌, if◌then◌else◌}
 use Rattle.std.specs.Prelude.{filter}
-use Rattle.std.specs.List.{list_any}
+use Rattle.std.specs.List.{flat_map, list_any}
 use Rattle.std.proofs.lemmas.Bool.{false≢true}
+use Rattle.std.proofs.lemmas.Grind.{flat_map-append}
 use Rattle.std.proofs.lemmas.List.Folds.{list_any-append}
 use Rattle.std.proofs.lemmas.List.Sums.{fold-append}
 use Rattle.indexmap.specs.IndexSet.{insert_key, insert_all}
-use Rattle.resolver_clause_store.specs.Candidates.{sorted_candidates, sorted_in_order}
+use Rattle.resolver_clause_store.specs.Candidates.{sorted_candidates}
 use Rattle.resolver_clause_store.specs.Laws.{IsIdentity}
 use Rattle.resolver_clause_store.specs.Lists.{without_repeats}
 use Rattle.resolver_clause_store.specs.Universe.{Universe}
@@ -78,37 +79,33 @@ module _ {X : Type 0} (same : X → X → Bool) (identity : IsIdentity same) whe
       filter_all (y ∷ ys) = ap (λ l. y ∷ l) (filter_all ys)
 
 module _ {N S : Type 0} (u : Universe N S) where
-  sorted_in_order-append : (vs ws : List VersionSetId) → sorted_in_order u (vs ++ ws) ≡ sorted_in_order u vs ++ sorted_in_order u ws
-  sorted_in_order-append [] ws = refl
-  sorted_in_order-append (v ∷ vs) ws = ap (λ l. sorted_candidates u v ++ l) (sorted_in_order-append vs ws) ∙
-      sym (append_assoc (sorted_candidates u v) (sorted_in_order u vs) (sorted_in_order u ws))
-
   -- the sorted candidates of one more version set
-  sorted_in_order_more : (vs : List VersionSetId) (i : ℕ) (d : VersionSetId) → i < length vs →
-      sorted_in_order u (take (i + 1) vs) ≡ sorted_in_order u (take i vs) ++ sorted_candidates u (get_or vs i d)
-  sorted_in_order_more vs i d below =
-      ap (sorted_in_order u) (take_more vs i d below)
-      ∙ sorted_in_order-append (take i vs) (get_or vs i d ∷ [])
-      ∙ ap (λ l. sorted_in_order u (take i vs) ++ l) (append-nil (sorted_candidates u (get_or vs i d)))
+  sorted_more : (vs : List VersionSetId) (i : ℕ) (d : VersionSetId) → i < length vs →
+      flat_map (sorted_candidates u) (take (i + 1) vs) ≡ flat_map (sorted_candidates u) (take i vs) ++ sorted_candidates u (get_or vs i d)
+  sorted_more vs i d below =
+      ap (flat_map (sorted_candidates u)) (take_more vs i d below)
+      ∙ flat_map-append (sorted_candidates u) (take i vs) (get_or vs i d ∷ [])
+      ∙ ap (λ l. flat_map (sorted_candidates u) (take i vs) ++ l) (append-nil (sorted_candidates u (get_or vs i d)))
 
   -- the candidates of all version sets up to one more
   pub taken_more : (same : S → S → Bool) (vs : List VersionSetId) (i : ℕ) (d : VersionSetId) (before list after : List S) → i < length vs →
-      before ≡ insert_all same [] (sorted_in_order u (take i vs)) → list ≡ sorted_candidates u (get_or vs i d) → after ≡ insert_all same before list →
-      after ≡ insert_all same [] (sorted_in_order u (take (i + 1) vs))
+      before ≡ insert_all same [] (flat_map (sorted_candidates u) (take i vs)) → list ≡ sorted_candidates u (get_or vs i d) →
+      after ≡ insert_all same before list → after ≡ insert_all same [] (flat_map (sorted_candidates u) (take (i + 1) vs))
   taken_more same vs i d before list after below held is added_all =
       added_all
       ∙ ap (λ ks. insert_all same ks list) held
-      ∙ ap (insert_all same (insert_all same [] (sorted_in_order u (take i vs)))) is
-      ∙ sym (fold-append (insert_key same) [] (sorted_in_order u (take i vs)) (sorted_candidates u (get_or vs i d)))
-      ∙ ap (insert_all same []) (sym (sorted_in_order_more vs i d below))
+      ∙ ap (insert_all same (insert_all same [] (flat_map (sorted_candidates u) (take i vs)))) is
+      ∙ sym (fold-append (insert_key same) [] (flat_map (sorted_candidates u) (take i vs)) (sorted_candidates u (get_or vs i d)))
+      ∙ ap (insert_all same []) (sym (sorted_more vs i d below))
 
   -- the candidates of all version sets
   pub taken_all : (same : S → S → Bool) → IsIdentity same → u.same_solvable ≡ same →
       (m : VersionSetUnionId) (vs : List VersionSetId) (i : ℕ) (items keys : List S) → length vs ≤ i → vs ≡ u.union_members m →
-      items ≡ keys → keys ≡ insert_all same [] (sorted_in_order u (take i vs)) → items ≡ without_repeats u.same_solvable (sorted_in_order u (u.union_members m))
+      items ≡ keys → keys ≡ insert_all same [] (flat_map (sorted_candidates u) (take i vs)) →
+      items ≡ without_repeats u.same_solvable (flat_map (sorted_candidates u) (u.union_members m))
   taken_all same identity compares m vs i items keys end members copied held =
       copied
       ∙ held
-      ∙ ap (λ ws. insert_all same [] (sorted_in_order u ws)) (take_all i vs end ∙ members)
-      ∙ insert_all-is same identity (sorted_in_order u (u.union_members m))
-      ∙ ap (λ e. without_repeats e (sorted_in_order u (u.union_members m))) (sym compares)
+      ∙ ap (λ ws. insert_all same [] (flat_map (sorted_candidates u) ws)) (take_all i vs end ∙ members)
+      ∙ insert_all-is same identity (flat_map (sorted_candidates u) (u.union_members m))
+      ∙ ap (λ e. without_repeats e (flat_map (sorted_candidates u) (u.union_members m))) (sym compares)

@@ -11,7 +11,7 @@ use Rattle.resolver_clause_store.specs.declared.standing.Standing.{Standing}
 use Rattle.resolver_clause_store.specs.declared.standing.Standing.TheVariants.{Inactive, Met, Open}
 
 -- the literal at this place of the clause is positive and has no value, and those before it are false
-pub record IsFirst (trail : Trail) (clause : List Literal) (place : ℕ) : Type 0 where
+pub record IsFirstUnassigned (trail : Trail) (clause : List Literal) (place : ℕ) : Type 0 where
   pub within : place < length clause
   pub positive : (d : Literal) → (slice_index_or clause place d).positive ≡ true
   pub free : (d : Literal) → literal_value trail (slice_index_or clause place d) ≡ None
@@ -30,7 +30,7 @@ pub record HasPassed (trail : Trail) (clause : List Literal) (count : ℕ) (firs
 -- the choice is for this requirement, and takes the first literal of its clause that is not false
 pub record IsChoiceOf (trail : Trail) (table : List (List Literal)) (requirement : StoredRequirement) (choice : Choice) : Type 0 where
   pub number_is : requirement.number ≡ choice.number
-  pub first : IsFirst trail (clause_at table choice.number) choice.place
+  pub first : IsFirstUnassigned trail (clause_at table choice.number) choice.place
 
 -- the choice is for one of the requirements
 pub record IsChoice (trail : Trail) (table : List (List Literal)) (requirements : List StoredRequirement) (choice : Choice) : Type 0 where
@@ -44,4 +44,4 @@ StandingIs trail clause (Inactive variable) = Contains clause (record { variable
     (literal_value trail (record { variable = variable; positive = false }) ≢ Some false)
 StandingIs trail clause (Met variable) = Contains clause (record { variable = variable; positive = true }) ×
     (literal_value trail (record { variable = variable; positive = true }) ≡ Some true)
-StandingIs trail clause (Open place count) = IsFirst trail clause place
+StandingIs trail clause (Open place count) = IsFirstUnassigned trail clause place

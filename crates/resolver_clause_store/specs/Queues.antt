@@ -5,7 +5,7 @@ use Rattle.resolver_clause_store.specs.declared.clauses.StoredRequirement.{Store
 use Rattle.resolver_clause_store.specs.declared.trail.Slot.{Slot}
 use Rattle.resolver_clause_store.specs.declared.trail.Trail.{Trail}
 use Rattle.resolver_clause_store.specs.Formula.{clause_at}
-use Rattle.resolver_clause_store.specs.Decisions.{IsFirst}
+use Rattle.resolver_clause_store.specs.Decisions.{IsFirstUnassigned}
 use Rattle.resolver_clause_store.specs.Outcomes.{IsMet}
 use Rattle.resolver_clause_store.specs.TrailView.{KeepsPlaces, length_of, literal_value, slot_of, variable_at}
 use Rattle.resolver_clause_store.specs.NumberedLists.{list_of}
@@ -88,5 +88,5 @@ pub record IsFollowed (queue : DecideQueue) (trail : Trail) : Type 0 where
 -- where this is the first candidate of the requirement with this index, and the whole trail was followed, the requirements stay queued
 abbrev pub StaysQueuedAt : Trail → (index first : ℕ) → DecideQueue → DecideQueue → Type 0
 StaysQueuedAt trail index first old new = (table : List (List Literal)) (requirements : List StoredRequirement) (d : StoredRequirement) →
-    index < length requirements → IsFirst trail (clause_at table (slice_index_or requirements index d).number) first → IsFollowed old trail →
+    index < length requirements → IsFirstUnassigned trail (clause_at table (slice_index_or requirements index d).number) first → IsFollowed old trail →
     IsQueued old trail table requirements → IsQueued new trail table requirements

@@ -1,11 +1,12 @@
 -- Sets that obey a list of rules, what such a set needs, and lists that no set obeys.
 use Rattle.std.specs.Prelude.{◌≡◌, ℕ, ◌<◌, List, Contains, remove, length, Vec}
 use Rattle.std.proofs.Common.{Global}
-use Rattle.resolver_clause_store.specs.Statements.{lists_of, statement_of, AllMeet, ObeysAlone}
+use Rattle.resolver_clause_store.specs.Statements.{statement_of, AllMeet, ObeysAlone}
 use Rattle.resolver_clause_store.specs.declared.data.Requirement.{Requirement}
 use Rattle.resolver_clause_store.specs.declared.data.By.TheVariants.{Root, Solvable}
 use Rattle.resolver_clause_store.specs.declared.rules.Rule.{Rule}
 use Rattle.resolver_clause_store.specs.declared.rules.Rule.TheVariants.{Requires, OnePerPackage}
+use Rattle.resolver_clause_store.specs.NumberedLists.{items_of}
 
 -- the set obeys each rule, and has at most one of the instances that the rules list for one name
 pub record Obeys {N S : Type 0} (set : List S) (rules : List (Rule N S)) : Type 0 where
@@ -16,10 +17,10 @@ pub record Obeys {N S : Type 0} (set : List S) (rules : List (Rule N S)) : Type 
 -- lists all have a member in the set
 pub data IsNeeded {N S : Type 0} (rules : List (Rule N S)) (set : List S) : S → Type 0 where
   by_root : {s : S} {requirement : Requirement} {candidates : Vec S Global} {when : Vec (Vec S Global) Global} →
-      Contains rules (Requires Root requirement candidates when) → AllMeet set (lists_of when.items) → Contains candidates.items s → Contains set s →
+      Contains rules (Requires Root requirement candidates when) → AllMeet set (items_of when.items) → Contains candidates.items s → Contains set s →
       IsNeeded rules set s
   by_needed : {s t : S} {requirement : Requirement} {candidates : Vec S Global} {when : Vec (Vec S Global) Global} → IsNeeded rules set t →
-      Contains rules (Requires (Solvable t) requirement candidates when) → AllMeet set (lists_of when.items) → Contains candidates.items s → Contains set s →
+      Contains rules (Requires (Solvable t) requirement candidates when) → AllMeet set (items_of when.items) → Contains candidates.items s → Contains set s →
       IsNeeded rules set s
 
 -- every member of the set is needed

@@ -1,6 +1,5 @@
 -- What rules state, whatever way they are stored, and which sets obey a statement.
-use Rattle.std.specs.Prelude.{◌≡◌, List, Contains, All, ⊤, map, Vec}
-use Rattle.std.proofs.Common.{Global}
+use Rattle.std.specs.Prelude.{◌≡◌, List, Contains, All, ⊤}
 use Rattle.resolver_clause_store.specs.Lists.{Meets}
 use Rattle.resolver_clause_store.specs.declared.ids.StringId.{StringId}
 use Rattle.resolver_clause_store.specs.declared.ids.VersionSetId.{VersionSetId}
@@ -9,6 +8,7 @@ use Rattle.resolver_clause_store.specs.declared.data.By.{By}
 use Rattle.resolver_clause_store.specs.declared.data.By.TheVariants.{Root, Solvable}
 use Rattle.resolver_clause_store.specs.declared.rules.Rule.{Rule}
 use Rattle.resolver_clause_store.specs.declared.rules.Rule.TheVariants.{Requires, Constrains, Lock, Excluded, OnePerPackage}
+use Rattle.resolver_clause_store.specs.NumberedLists.{items_of}
 
 pub data Statement (N S : Type 0) : Type 0 where
   requires : By S → Requirement → List S → List (List S) → Statement N S
@@ -17,13 +17,9 @@ pub data Statement (N S : Type 0) : Type 0 where
   excluded : S → StringId → Statement N S
   one_per_package : N → S → Statement N S
 
--- the vectors as lists
-abbrev pub lists_of : {S : Type 0} → List (Vec S Global) → List (List S)
-lists_of lists = map (λ (list : Vec _ Global). list.items) lists
-
 -- the statement of a rule
 abbrev pub statement_of : {N S : Type 0} → Rule N S → Statement N S
-statement_of (Requires by requirement candidates when) = requires by requirement candidates.items (lists_of when.items)
+statement_of (Requires by requirement candidates when) = requires by requirement candidates.items (items_of when.items)
 statement_of (Constrains by version_set candidate) = constrains by version_set candidate
 statement_of (Lock locked forbidden) = lock locked forbidden
 statement_of (Excluded solvable reason) = excluded solvable reason

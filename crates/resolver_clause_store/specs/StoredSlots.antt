@@ -11,10 +11,10 @@ use Rattle.resolver_clause_store.specs.declared.trail.Reason.TheVariants.{Assume
 use Rattle.resolver_clause_store.specs.declared.trail.Slot.{Slot}
 
 -- the value that is stored, if there is one
-abbrev pub value_of : StoredValue → Option Bool
-value_of False = Some false
-value_of True = Some true
-value_of Open = None
+abbrev pub value_stored : StoredValue → Option Bool
+value_stored False = Some false
+value_stored True = Some true
+value_stored Open = None
 
 -- the reason with these parts
 abbrev pub reason_from : Cause → ℕ → Reason
@@ -35,4 +35,4 @@ slot_with value stored = option_map (λ (v : Bool). record {
 abbrev pub slots_in : List StoredValue → List StoredSlot → List (Option Slot)
 slots_in [] stored = []
 slots_in (value ∷ values) [] = []
-slots_in (value ∷ values) (one ∷ stored) = slot_with (value_of value) one ∷ slots_in values stored
+slots_in (value ∷ values) (one ∷ stored) = slot_with (value_stored value) one ∷ slots_in values stored

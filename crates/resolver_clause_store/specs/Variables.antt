@@ -20,6 +20,6 @@ pub record Keeps {X : Type 0} (old new : List X) : Type 0 where
   pub kept : (k : ℕ) (x : X) → slice_get old k ≡ Some x → slice_get new k ≡ Some x
 
 -- the number of variables, no two of them alike, is at its limit
-pub record IsFull {N S : Type 0} (v : Variables N S) : Type 0 where
+pub record AreFull {N S : Type 0} (v : Variables N S) : Type 0 where
   pub count : length (origins_in v) ≡ limit_in v
   pub distinct : AreDistinct (origins_in v)

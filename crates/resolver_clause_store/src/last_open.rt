@@ -1,7 +1,7 @@
 //! The requirement that was last found left to decide.
 
 ghost use Rattle.std.specs.Prelude.{◌<◌, ◌≡◌, ◌≤◌, IfSome, MatchBool, MatchOption, Some, length};
-ghost use Rattle.resolver_clause_store.specs.Decisions.{IsFirst};
+ghost use Rattle.resolver_clause_store.specs.Decisions.{IsFirstUnassigned};
 ghost use Rattle.resolver_clause_store.specs.Formula.{IsBelow};
 ghost use Rattle.resolver_clause_store.specs.LastOpens.{IsFirstNotFalse, IsOpenSince, NoneIsTrueFrom, AreFalseFrom};
 ghost use Rattle.resolver_clause_store.specs.TrailView.{length_of, literal_value, variable_count};
@@ -68,7 +68,7 @@ pub fn first_not_false(trail: &Trail, clause: &[Literal], from: usize) -> Option
 /// decide still.
 pub fn still_open(trail: &Trail, clause: &[Literal], last: &LastOpen) -> Option<usize>
     requires { IsBelow (variable_count trail.now) clause.now }
-    ensures { IfSome result (λ first. IsOpenSince trail.now clause.now last.now.first last.now.count → IsFirst trail.now clause.now first) }
+    ensures { IfSome result (λ first. IsOpenSince trail.now clause.now last.now.first last.now.count → IsFirstUnassigned trail.now clause.now first) }
 {
     if !none_is_true_from(trail, last.count) {
         return None;

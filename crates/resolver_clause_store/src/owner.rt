@@ -13,18 +13,18 @@ pub struct Owner {
 }
 
 impl Owner {
-    ghost use Rattle.resolver_clause_store.specs.Owners.{package_of};
+    ghost use Rattle.resolver_clause_store.specs.Owners.{package_number};
 
     /// Returns the owner of a variable that stands for no solvable.
     pub fn none() -> Self
-        ensures { package_of result ≡ None }
+        ensures { package_number result ≡ None }
     {
         Owner { place: 0 }
     }
 
     /// Returns the package with this number as an owner.
     pub fn package(number: usize) -> Result<Self, AllocError>
-        ensures { IfOk result (λ owner. package_of owner ≡ Some number) }
+        ensures { IfOk result (λ owner. package_number owner ≡ Some number) }
     {
         match narrow(number)?.checked_add(1) {
             Some(place) => Ok(Owner { place }),
@@ -34,7 +34,7 @@ impl Owner {
 
     /// Returns the number of the package, if there is one.
     pub fn number(self) -> Option<usize>
-        ensures { result ≡ package_of self }
+        ensures { result ≡ package_number self }
     {
         if self.place == 0 {
             return None;

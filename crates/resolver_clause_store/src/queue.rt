@@ -10,7 +10,7 @@ ghost use Rattle.resolver_clause_store.specs.Literals.{Literal};
 ghost use Rattle.resolver_clause_store.specs.declared.clauses.StoredRequirement.{StoredRequirement};
 ghost use Rattle.resolver_clause_store.specs.declared.trail.Slot.{Slot};
 ghost use Rattle.resolver_clause_store.specs.declared.trail.Trail.{Trail};
-ghost use Rattle.resolver_clause_store.specs.Decisions.{IsChoice, IsFirst};
+ghost use Rattle.resolver_clause_store.specs.Decisions.{IsChoice, IsFirstUnassigned};
 ghost use Rattle.resolver_clause_store.specs.Settled.{AllSettled};
 ghost use Rattle.resolver_clause_store.specs.NumberedLists.{list_of};
 
@@ -193,7 +193,7 @@ impl DecideQueue {
     /// to decide, and is known to be so still.
     fn known_first(&self, trail: &Trail, literals: &[Literal], requirement: u32) -> Option<usize>
         requires { IsBelow (variable_count trail.now) literals.now }
-        ensures { IfSome result (λ first. IsOpenIfLast self.now trail.now literals.now requirement → IsFirst trail.now literals.now first) }
+        ensures { IfSome result (λ first. IsOpenIfLast self.now trail.now literals.now requirement → IsFirstUnassigned trail.now literals.now first) }
     {
         match &self.last {
             Some(last) => {

@@ -1,7 +1,8 @@
 //! The rules of a conflict, which sets of solvables obey or break.
 
 ghost use Rattle.std.specs.Prelude.{◌≡◌, IfErr, IfOk};
-ghost use Rattle.resolver_clause_store.specs.Statements.{StatesTheSame, lists_of};
+ghost use Rattle.resolver_clause_store.specs.Statements.{StatesTheSame};
+ghost use Rattle.resolver_clause_store.specs.NumberedLists.{items_of};
 
 use crate::data::{By, Exhausted, Requirement};
 use crate::ids::{StringId, VersionSetId};
@@ -53,7 +54,7 @@ pub enum Rule<N, S> {
 
 /// Copies each list, in order.
 fn copy_lists<S: Copy + Drop>(lists: &Vec<Vec<S>>) -> Result<Vec<Vec<S>>, AllocError>
-    ensures { IfOk result (λ copies. lists_of lists.now.items ≡ lists_of copies.items) }
+    ensures { IfOk result (λ copies. items_of lists.now.items ≡ items_of copies.items) }
 {
     let alloc = *lists.allocator();
     let mut copies = Vec::new(alloc);

@@ -3,7 +3,7 @@
 ghost use Rattle.std.specs.Prelude.{◌<◌, ◌≡◌, ◌≢◌, ◌≤◌, [], ℕ, MatchBool, None, OnErr, OnOk, Some, length, slice_set};
 ghost use Rattle.std.specs.Option.{option_map};
 ghost use Rattle.resolver_clause_store.specs.Slots.{slot_in};
-ghost use Rattle.resolver_clause_store.specs.StoredSlots.{reason_from, slot_with, value_of};
+ghost use Rattle.resolver_clause_store.specs.StoredSlots.{reason_from, slot_with, value_stored};
 ghost use Rattle.resolver_clause_store.specs.declared.trail.Slot.{Slot};
 
 use crate::trail::{Reason, Slot};
@@ -49,7 +49,7 @@ fn blank() -> StoredSlot {
 
 /// Returns a value as it is stored.
 fn stored_value(value: bool) -> StoredValue
-    ensures { value_of result ≡ Some value }
+    ensures { value_stored result ≡ Some value }
 {
     if value {
         return StoredValue::True;
@@ -59,7 +59,7 @@ fn stored_value(value: bool) -> StoredValue
 
 /// Returns whether this value is stored.
 fn is_stored(stored: StoredValue, value: bool) -> bool
-    ensures { MatchBool result (value_of stored ≡ Some value) (value_of stored ≢ Some value) }
+    ensures { MatchBool result (value_stored stored ≡ Some value) (value_stored stored ≢ Some value) }
 {
     stored == stored_value(value)
 }
@@ -88,7 +88,7 @@ fn reason_from(cause: Cause, number: u32) -> Reason
 
 /// Returns the value that is stored.
 fn value_of(stored: StoredValue) -> Option<bool>
-    ensures { result ≡ value_of stored }
+    ensures { result ≡ value_stored stored }
 {
     match stored {
         StoredValue::False => Some(false),

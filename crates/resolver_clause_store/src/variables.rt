@@ -31,7 +31,7 @@ impl<N: Copy + Eq + Hash + Drop, S: Copy + Eq + Hash + Drop> Model for Variables
 }
 
 impl<N: Copy + Eq + Hash + Drop, S: Copy + Eq + Hash + Drop> Variables<N, S> {
-    ghost use Rattle.resolver_clause_store.specs.Variables.{AreDistinct, IsFull, Keeps, limit_in, origins_in};
+    ghost use Rattle.resolver_clause_store.specs.Variables.{AreDistinct, AreFull, Keeps, limit_in, origins_in};
 
     /// Creates an empty table. The limit is at most 2147483648.
     pub fn new(alloc: Global, limit: usize) -> Self
@@ -88,7 +88,7 @@ impl<N: Copy + Eq + Hash + Drop, S: Copy + Eq + Hash + Drop> Variables<N, S> {
         ensures distinct { AreDistinct (origins_in self.old) → AreDistinct (origins_in self.new) }
         ensures added { (origins_in self.new ≡ origins_in self.old) ⊎ (origins_in self.new ≡ origins_in self.old ++ origin ∷ []) }
         ensures unchanged { OnErr result (origins_in self.new ≡ origins_in self.old) }
-        ensures ids { IfErr result (λ e. e ≡ Exhausted.Ids → IsFull self.new) }
+        ensures ids { IfErr result (λ e. e ≡ Exhausted.Ids → AreFull self.new) }
     {
         match place_of(&self.origins, &origin) {
             Some(index) => Ok(Variable::new(index as u32)),
@@ -107,7 +107,7 @@ impl<N: Copy + Eq + Hash + Drop, S: Copy + Eq + Hash + Drop> Variables<N, S> {
         ensures distinct { AreDistinct (origins_in self.old) → AreDistinct (origins_in self.new) }
         ensures added { (origins_in self.new ≡ origins_in self.old) ⊎ (origins_in self.new ≡ origins_in self.old ++ origin ∷ []) }
         ensures unchanged { OnErr result (origins_in self.new ≡ origins_in self.old) }
-        ensures ids { IfErr result (λ e. e ≡ Exhausted.Ids → IsFull self.new) }
+        ensures ids { IfErr result (λ e. e ≡ Exhausted.Ids → AreFull self.new) }
     {
         let index = self.origins.len();
         if index == self.limit {

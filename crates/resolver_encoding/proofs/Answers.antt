@@ -21,7 +21,8 @@ use Rattle.resolver_clause_store.specs.declared.Origin.TheVariants.{Root, Solvab
 use Rattle.resolver_clause_store.specs.declared.ClauseKind.{ClauseKind}
 use Rattle.resolver_clause_store.specs.declared.ClauseKind.TheVariants.{AnyOf, Constrains, ConstrainsExcluded, ConstrainsParent, HasBit, Lock, Excluded}
 use Rattle.resolver_encoding.specs.Atoms.{IsHelper, Atom, atom, origin_by, atoms_of}
-use Rattle.resolver_encoding.specs.Read.{IsSettled, Covers, IsClosedPart, IsMade, made_direct, made_gated, IsForbidden, forbidden_direct, forbidden_helped}
+use Rattle.resolver_encoding.specs.Read.{AreValuesSettled, CoversChosen, IsClosedPart, IsMade, made_direct, made_gated, IsForbidden, forbidden_direct}
+use Rattle.resolver_encoding.specs.Read.{forbidden_helped}
 use Rattle.resolver_clause_store.proofs.ListLemmas.{Contains-cons_cases as cons_cases, Contains-here as here, Contains-map, Contains-none as none_in}
 use Rattle.resolver_clause_store.proofs.ListLemmas.{Contains-there as there}
 use Rattle.resolver_encoding.specs.Read.{AreApart, apart_coded}
@@ -31,7 +32,7 @@ unknown_or (known d) = inl tt
 unknown_or (unknown reason) = inr (reason, refl)
 
 module _ {N S : Type 0} (u : Universe N S) (root : Demands) (kinds : List (ClauseKind N S)) (Takes : Origin N S → Bool → Type 0)
-    (settled : IsSettled u kinds Takes) where
+    (settled : AreValuesSettled u kinds Takes) where
   -- a clause with one or two atoms
   one_false : (k : ClauseKind N S) (a : Atom N S) → Contains kinds k → atoms_of u k ≡ a ∷ [] → Takes a.origin (not a.positive) → ⊥
   one_false k a inside is off =
@@ -69,7 +70,7 @@ module _ {N S : Type 0} (u : Universe N S) (root : Demands) (kinds : List (Claus
       (λ t. ⊎_elim (λ e. inr (subst Off e off)) (λ n. absurd (none_in b n)) (cons_cases other [] b t))
       (cons_cases a (other ∷ []) b (subst (λ (xs : List (Atom N S)). ListHas xs b) is among)))
 
-  module _ (lawful : HasLawfulSolvables u) (chosen exempt : List S) (covers : Covers u root kinds chosen exempt)
+  module _ (lawful : HasLawfulSolvables u) (chosen exempt : List S) (covers : CoversChosen u root kinds chosen exempt)
       (part : IsClosedPart u kinds Takes chosen) where
     taken_by : (by : By S) → IsPresent by chosen → Takes (origin_by by) true
     taken_by ByRoot h = settled.root_taken

@@ -31,11 +31,11 @@ use Rattle.resolver_clause_store.specs.declared.VersionSetId.{VersionSetId}
 use Rattle.resolver_clause_store.proofs.SlotLemmas.{slot-within}
 use Rattle.resolver_encoding.specs.Atoms.{Atom, atom, origin_by, atoms_of}
 use Rattle.resolver_encoding.specs.Encodings.{IsRequirementKind, IsEncoding, IsLeft, Notes}
-use Rattle.resolver_encoding.specs.Read.{IsSettled}
+use Rattle.resolver_encoding.specs.Read.{AreValuesSettled}
 use Rattle.resolver_encoding.specs.ReadState.{AreSeeds}
 use Rattle.resolver_encoding.specs.SoFar.{IsReadSoFar}
 use Rattle.resolver_encoding.specs.Truth.{HasLawfulSolvables}
-use Rattle.resolver_encoding.specs.TrailAtoms.{CoversReached, IsAnswerBy, IsChosen as IsChosenBy, Takes, IsEntailed, IsFirstOpen, IsBecause, needed}
+use Rattle.resolver_encoding.specs.TrailAtoms.{CoversReached, IsAnswerBy, IsChosenBy, Takes, IsEntailed, IsFirstOpen, IsBecause, needed}
 use Rattle.resolver_encoding.specs.TrailAtoms.{needed_gate, seeded, left_out, forced, IsTrail, begun, went_on}
 use Rattle.resolver_encoding.specs.Trails.{AreAssumed, solvable_if, solvables_before, origin_at, value_of, entry_at, atoms_before, atoms_by}
 use Rattle.resolver_encoding.specs.Values.{IsAtom, AreInOrder}
@@ -530,7 +530,7 @@ module _ {N S : Type 0} (u : Universe N S) (root : Demands) (notes : Notes N S) 
   decided_gate r inside on = decided_kind (GateRequires r) (Gate r) [] r refl (inr (r, refl)) inside on
       (All-nil (λ v. Contains all (atom (ConditionHelper v) true)))
 
-  pub settled : IsSettled u notes.kinds (Takes all)
+  pub settled : AreValuesSettled u notes.kinds (Takes all)
   settled = record {
     apart = apart;
     root_taken = unit InstallRoot (atom Root true) encoding.installs (here (atom Root true) []) (λ b inside.

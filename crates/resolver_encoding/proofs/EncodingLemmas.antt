@@ -24,7 +24,7 @@ use Rattle.resolver_clause_store.proofs.PlaceLemmas.{Keeps-same, Keeps-trans, pl
 use Rattle.resolver_encoding.specs.Atoms.{Atom, atom, atoms_of, first_atom, front, helpers_of, second_atom, wanted}
 use Rattle.resolver_encoding.specs.Called.{Call, to_ask, to_see}
 use Rattle.resolver_encoding.specs.Encodings.{AddsKind, IsRequirementKind, Coding, Doing, Extends, Grows, HasProperHelper, IsAskStep}
-use Rattle.resolver_encoding.specs.Encodings.{IsEncodingOf, IsEncodingWhile, IsFollowed, IsGrowth, IsLeft, IsReadStep, IsStep, IsStepWhile, Notes, numbers_with, idle}
+use Rattle.resolver_encoding.specs.Encodings.{IsEncodingOf, IsEncodingWhile, IsCallMade, IsGrowth, IsLeft, IsReadStep, IsStep, IsStepWhile, Notes, numbers_with, idle}
 use Rattle.resolver_encoding.specs.Codes.{bit}
 use Rattle.resolver_encoding.specs.Groups.{IsAt}
 use Rattle.resolver_encoding.specs.Read.{IsForbidden, forbidden_direct, forbidden_helped}
@@ -391,7 +391,7 @@ module _ {N S : Type 0} (u : Universe N S) where
   IsStep-weaker doing Premise Stronger follows old new step = search step.keeps
 
   -- if nothing was asked or registered, each followed call was followed before
-  pub followed_before : (old new : Notes N S) → new.asked ≡ old.asked → new.seen ≡ old.seen → (call : Call N S) → IsFollowed new call → IsFollowed old call
+  pub followed_before : (old new : Notes N S) → new.asked ≡ old.asked → new.seen ≡ old.seen → (call : Call N S) → IsCallMade new call → IsCallMade old call
   followed_before old new asked seen (to_ask n) h = let Has : List N → Type 0 = λ list. Contains list n in subst Has asked h
   followed_before old new asked seen (to_see s) h = let Has : List S → Type 0 = λ list. Contains list s in subst Has seen h
 
@@ -407,7 +407,7 @@ module _ {N S : Type 0} (u : Universe N S) where
   pub IsAskStep-trans : (Called : Call N S → Type 0) (Premise : Demands → Type 0) (one two three : Notes N S) → IsAskStep u Called Premise one two →
       IsAskStep u Called Premise two three → IsAskStep u Called Premise one three
   IsAskStep-trans Called Premise one two three first second =
-      let called : (call : Call N S) → IsFollowed three call → IsFollowed one call ⊎ Called call =
+      let called : (call : Call N S) → IsCallMade three call → IsCallMade one call ⊎ Called call =
       λ call h. ⊎_elim (λ before. first.called call before) (λ called. inr called) (second.called call h) in
       search (IsGrowth-trans, first.keeps, second.keeps)
 
@@ -415,7 +415,7 @@ module _ {N S : Type 0} (u : Universe N S) where
   pub IsAskStep-weaker : (Called More : Call N S → Type 0) → ((call : Call N S) → Called call → More call) → (Premise Stronger : Demands → Type 0) →
       ((root : Demands) → Stronger root → Premise root) → (old new : Notes N S) → IsAskStep u Called Premise old new → IsAskStep u More Stronger old new
   IsAskStep-weaker Called More more Premise Stronger follows old new step =
-      let called : (call : Call N S) → IsFollowed new call → IsFollowed old call ⊎ More call =
+      let called : (call : Call N S) → IsCallMade new call → IsCallMade old call ⊎ More call =
       λ call h. ⊎_elim (λ before. inl before) (λ called. inr (more call called)) (step.called call h) in
       search step.keeps
 
@@ -434,7 +434,7 @@ module _ {N S : Type 0} (u : Universe N S) where
   pub IsReadStep-trans : (Defers : Deferred S → Type 0) (Called : Call N S → Type 0) (Premise : Demands → Type 0) (one two three : Notes N S) →
       IsReadStep u Defers Called Premise one two → IsReadStep u Defers Called Premise two three → IsReadStep u Defers Called Premise one three
   IsReadStep-trans Defers Called Premise one two three first second =
-      let called : (call : Call N S) → IsFollowed three call → IsFollowed one call ⊎ Called call =
+      let called : (call : Call N S) → IsCallMade three call → IsCallMade one call ⊎ Called call =
       λ call h. ⊎_elim (λ before. first.called call before) (λ called. inr called) (second.called call h) in
       let defers : (e : Deferred S) → IsLeft three e → IsLeft one e ⊎ Defers e =
       λ e h. ⊎_elim (λ before. first.defers e before) (λ put_off. inr put_off) (second.defers e h) in
@@ -444,7 +444,7 @@ module _ {N S : Type 0} (u : Universe N S) where
       (Premise Stronger : Demands → Type 0) → ((root : Demands) → Stronger root → Premise root) → (old new : Notes N S) →
       IsReadStep u Defers Called Premise old new → IsReadStep u Defers More Stronger old new
   IsReadStep-weaker Defers Called More more Premise Stronger follows old new step =
-      let called : (call : Call N S) → IsFollowed new call → IsFollowed old call ⊎ More call =
+      let called : (call : Call N S) → IsCallMade new call → IsCallMade old call ⊎ More call =
       λ call h. ⊎_elim (λ before. inl before) (λ called. inr (more call called)) (step.called call h) in
       search step.keeps
 

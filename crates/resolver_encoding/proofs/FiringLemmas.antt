@@ -14,8 +14,8 @@ use Rattle.resolver_clause_store.specs.Candidates.{matching}
 use Rattle.resolver_clause_store.specs.declared.VersionSetId.{VersionSetId}
 use Rattle.resolver_clause_store.proofs.PlaceLemmas.{place_cases, place_of_member}
 use Rattle.resolver_encoding.specs.Called.{Call, IsWantedBy}
-use Rattle.resolver_encoding.specs.Encodings.{IsAskStep, IsEncoding, IsFollowed, IsLeft, IsReadStep, IsTrueEntry, IsTrueUnder, Notes}
-use Rattle.resolver_encoding.specs.Groups.{AddsNamed, AreGroups, IsNamed}
+use Rattle.resolver_encoding.specs.Encodings.{IsAskStep, IsCallMade, IsEncoding, IsLeft, IsReadStep, IsTrueEntry, IsTrueUnder, Notes}
+use Rattle.resolver_encoding.specs.Groups.{AddsNamed, AreGroups, IsInGroup}
 use Rattle.resolver_encoding.specs.Notes.{entry_of}
 use Rattle.resolver_encoding.specs.ReadState.{Deferred, HasClause}
 use Rattle.resolver_encoding.specs.SoFar.{HasFired, HasMet, IsDeferral, IsFiring, IsIndexing, IsQuietAt, IsQuietUnder, IsTakenOut, left_count}
@@ -145,7 +145,7 @@ module _ {N S : Type 0} (u : Universe N S) where
         is = refl;
         sound = λ h. h;
         earlier = λ h n i m. m;
-        here = λ h. All-nil (λ v. IsNamed notes.deferred_by_name (u.version_set_name v) number);
+        here = λ h. All-nil (λ v. IsInGroup notes.deferred_by_name (u.version_set_name v) number);
       }
 
   -- the number is indexed under the package of one more version set
@@ -158,15 +158,16 @@ module _ {N S : Type 0} (u : Universe N S) where
       let same : mid.deferred_by_name ≡ before.deferred_by_name = ap (λ (m : Notes N S). m.deferred_by_name) before.is in
       let Sound : Groups N ℕ → Type 0 = λ g. AreGroups g in
       let ready : AreGroups old.deferred_by_name → AreGroups mid.deferred_by_name = λ h. subst Sound (sym same) (before.sound h) in
-      let Here : Groups N ℕ → Type 0 = λ g. All (λ v. IsNamed g (u.version_set_name v) number) (take i list) in
-      let Named : N → Type 0 = λ m. IsNamed new.deferred_by_name m number in
+      let Here : Groups N ℕ → Type 0 = λ g. All (λ v. IsInGroup g (u.version_set_name v) number) (take i list) in
+      let Named : N → Type 0 = λ m. IsInGroup new.deferred_by_name m number in
       record {
         deferred_by_name = new.deferred_by_name;
         is = is ∙ ap (λ (m : Notes N S). record m { deferred_by_name = new.deferred_by_name }) before.is;
         sound = λ h. (adds (ready h)).sound;
-        earlier = λ h m k at. let Is : Groups N ℕ → Type 0 = λ g. IsNamed g m k in (adds (ready h)).earlier m k (subst Is (sym same) (before.earlier h m k at));
-        here = λ h. All-grown_at (λ v. IsNamed mid.deferred_by_name (u.version_set_name v) number)
-            (λ v. IsNamed new.deferred_by_name (u.version_set_name v) number) list i d
+        earlier = λ h m k at. let Is : Groups N ℕ → Type 0 = λ g. IsInGroup g m k in
+            (adds (ready h)).earlier m k (subst Is (sym same) (before.earlier h m k at));
+        here = λ h. All-grown_at (λ v. IsInGroup mid.deferred_by_name (u.version_set_name v) number)
+            (λ v. IsInGroup new.deferred_by_name (u.version_set_name v) number) list i d
             (λ v at. (adds (ready h)).earlier (u.version_set_name v) number at) below (subst Here (sym same) (before.here h))
             (subst Named named (adds (ready h)).here);
       }
@@ -174,7 +175,7 @@ module _ {N S : Type 0} (u : Universe N S) where
   pub IsDeferral-from : (number : ℕ) (e : Deferred S) (old mid new : Notes N S) → number ≡ length old.deferred → IsIndexing u number e.disjunct old mid →
       new ≡ record mid { deferred = mid.deferred ++ Some e ∷ [] } → IsDeferral u e old new
   IsDeferral-from number e old mid new last before is =
-      let Here : ℕ → Type 0 = λ k. All (λ v. IsNamed before.deferred_by_name (u.version_set_name v) k) e.disjunct in
+      let Here : ℕ → Type 0 = λ k. All (λ v. IsInGroup before.deferred_by_name (u.version_set_name v) k) e.disjunct in
       record {
         deferred_by_name = before.deferred_by_name;
         is = is ∙ ap (λ (m : Notes N S). record m { deferred = m.deferred ++ Some e ∷ [] }) before.is;
@@ -187,7 +188,7 @@ module _ {N S : Type 0} (u : Universe N S) where
   encoding_deferred : (root : Demands) (old : Notes N S) (deferred : List (Option (Deferred S))) (deferred_by_name : Groups N ℕ) → IsEncoding u root old →
       ((e : Deferred S) → Contains deferred (Some e) → IsTrueEntry u root e) →
       ((i : ℕ) (e : Deferred S) → slice_get deferred i ≡ Some (Some e) → (v : VersionSetId) → Contains e.disjunct v →
-      IsNamed deferred_by_name (u.version_set_name v) i) → AreGroups deferred_by_name →
+      IsInGroup deferred_by_name (u.version_set_name v) i) → AreGroups deferred_by_name →
       IsEncoding u root (record old { deferred = deferred; deferred_by_name = deferred_by_name })
   encoding_deferred root old deferred deferred_by_name before left_true indexed sound = search
 
@@ -217,12 +218,12 @@ module _ {N S : Type 0} (u : Universe N S) where
           (Contains-push_cases old.deferred (Some e) (Some x) h))
           (λ i x at v h.
           let Has : Deferred S → Type 0 = λ y. Contains y.disjunct v in
-          let Named : ℕ → Type 0 = λ k. IsNamed deferral.deferred_by_name (u.version_set_name v) k in
+          let Named : ℕ → Type 0 = λ k. IsInGroup deferral.deferred_by_name (u.version_set_name v) k in
           ⊎_elim
           (λ (earlier : slice_get old.deferred i ≡ Some (Some x)). deferral.earlier before.sound_deferred_by_name (u.version_set_name v) i
           (before.indexed i x earlier v h))
           (λ (last : (i ≡ length old.deferred) × (Some e ≡ Some x)).
-          subst Named (sym last.0) (All-contains (λ w. IsNamed deferral.deferred_by_name (u.version_set_name w) (length old.deferred)) e.disjunct v
+          subst Named (sym last.0) (All-contains (λ w. IsInGroup deferral.deferred_by_name (u.version_set_name w) (length old.deferred)) e.disjunct v
           (deferral.here before.sound_deferred_by_name) (subst Has (sym (same_Some e x last.1)) h)))
           (place_cases old.deferred (Some e) i (Some x) at))
           (deferral.sound before.sound_deferred_by_name)
@@ -241,8 +242,8 @@ module _ {N S : Type 0} (u : Universe N S) where
   module _ (set : List S) where
     pub IsFiring-trans : (one two three : Notes N S) → IsFiring u set one two → IsFiring u set two three → IsFiring u set one three
     IsFiring-trans one two three first second =
-        let called = λ (call : Call N S) (h : IsFollowed three call). ⊎_elim
-        (λ (earlier : IsFollowed two call). first.called call earlier)
+        let called = λ (call : Call N S) (h : IsCallMade three call). ⊎_elim
+        (λ (earlier : IsCallMade two call). first.called call earlier)
         (λ (later : (e : Deferred S) × IsLeft two e × AllMeet set (map (matching u) e.disjunct) × IsWantedBy u e.requirement call).
         let at = place_of_member two.deferred (Some later.0) later.1 in
         inr (later.0, place_in one.deferred at.0 (Some later.0) (first.stays at.0 later.0 at.1), later.2, later.3))
@@ -283,7 +284,7 @@ module _ {N S : Type 0} (u : Universe N S) where
           let Step : Notes N S → Type 0 = λ n. IsAskStep u (IsWantedBy u e.requirement) (IsTrueUnder u e) n new in
           let plain = subst Step out.is step in
           let listed = place_in old.deferred number (Some e) out.was in
-          let called : (call : Call N S) → IsFollowed new call → IsFollowed old call ⊎
+          let called : (call : Call N S) → IsCallMade new call → IsCallMade old call ⊎
           ((x : Deferred S) × IsLeft old x × AllMeet set (map (matching u) x.disjunct) × IsWantedBy u x.requirement call) =
           λ call h. ⊎_elim (λ earlier. inl earlier) (λ wanted. inr (e, listed, met, wanted)) (plain.called call h) in
           let keeps : (root : Demands) → IsEncoding u root old → IsEncoding u root new =
@@ -313,16 +314,16 @@ module _ {N S : Type 0} (u : Universe N S) where
 
       pub IsQuietUnder-kept : (n : N) → IsQuietUnder u set old n → IsQuietUnder u set new n
       IsQuietUnder-kept n before = record {
-        quiet = λ i named. let Named : Groups N ℕ → Type 0 = λ g. IsNamed g n i in
+        quiet = λ i named. let Named : Groups N ℕ → Type 0 = λ g. IsInGroup g n i in
             IsQuietAt-kept i (before.quiet i (subst Named firing.deferred_by_name named));
       }
 
       -- no disjunct with one of these numbers is due
-      pub IsQuietUnder-all : (n : N) (numbers : List ℕ) → ((i : ℕ) → IsNamed old.deferred_by_name n i → Contains numbers i) →
+      pub IsQuietUnder-all : (n : N) (numbers : List ℕ) → ((i : ℕ) → IsInGroup old.deferred_by_name n i → Contains numbers i) →
           All (IsQuietAt u set new) numbers → IsQuietUnder u set new n
       IsQuietUnder-all n numbers every quiet =
           record {
-            quiet = λ i named. let Named : Groups N ℕ → Type 0 = λ g. IsNamed g n i in
+            quiet = λ i named. let Named : Groups N ℕ → Type 0 = λ g. IsInGroup g n i in
                 All-contains (IsQuietAt u set new) numbers i quiet (every i (subst Named firing.deferred_by_name named));
           }
 

@@ -8,7 +8,7 @@ use Rattle.std.proofs.lemmas.List.{get_or_past}
 use Rattle.std.proofs.lemmas.List.Elements.{Contains-append_left, Contains-push, Contains-push_cases}
 use Rattle.resolver_clause_store.specs.NumberedLists.{PutsList, list_of}
 use Rattle.resolver_clause_store.specs.Variables.{AreDistinct}
-use Rattle.resolver_encoding.specs.Groups.{AddsNamed, AreGroups, IsAt, IsNamed, group_at}
+use Rattle.resolver_encoding.specs.Groups.{AddsNamed, AreGroups, IsAt, IsInGroup, group_at}
 use Rattle.resolver_encoding.specs.declared.groups.Groups.{Groups}
 use Rattle.resolver_clause_store.proofs.ListLemmas.{Contains-at as place_in, Contains-none as none_in, slice_get-last as place_last}
 use Rattle.resolver_clause_store.proofs.PlaceLemmas.{place_left, place_cases, place_of_member, AreDistinct-push}
@@ -171,13 +171,13 @@ module _ {N S : Type 0} (old new : Groups N S) (n : N) (s : S) where
       }
 
 -- an element of a group has a number
-pub number_of_named : {N S : Type 0} (g : Groups N S) (n : N) (s : S) → IsNamed g n s → (k : ℕ) × IsAt g n k s
+pub number_of_named : {N S : Type 0} (g : Groups N S) (n : N) (s : S) → IsInGroup g n s → (k : ℕ) × IsAt g n k s
 number_of_named g n s h =
     let at = place_of_member (group_at g.members h.place) s h.inside in
     (at.0, record { place = h.place; named = h.named; at = at.1 })
 
 -- an element that has a number is in the group
-pub named_of_number : {N S : Type 0} (g : Groups N S) (n : N) (k : ℕ) (s : S) → IsAt g n k s → IsNamed g n s
+pub named_of_number : {N S : Type 0} (g : Groups N S) (n : N) (k : ℕ) (s : S) → IsAt g n k s → IsInGroup g n s
 named_of_number g n k s h = record { place = h.place; named = h.named; inside = place_in (group_at g.members h.place) k s h.at }
 
 -- two numbers of one element are the same

@@ -20,7 +20,7 @@ use Rattle.resolver_clause_store.specs.declared.VersionSetId.{VersionSetId}
 use Rattle.resolver_clause_store.proofs.SetLemmas.{All-next}
 use Rattle.resolver_encoding.specs.Called.{Call, IsAsking, IsNamedBy, IsSeeing, IsSeeingEach, to_ask, to_see}
 use Rattle.resolver_encoding.specs.Encodings.{AddsKind, Doing, Grows, HasProperHelper, IsAskStep, IsEncoding}
-use Rattle.resolver_encoding.specs.Encodings.{IsEncodingWhile, IsFollowed, IsLockRead, IsStep, IsStepWhile, Notes, asking_for, idle}
+use Rattle.resolver_encoding.specs.Encodings.{IsCallMade, IsEncodingWhile, IsLockRead, IsStep, IsStepWhile, Notes, asking_for, idle}
 use Rattle.resolver_encoding.specs.Truth.{AreDue, IsTrueClause}
 use Rattle.resolver_encoding.proofs.EncodingLemmas.{AreEncoded-keeps, Contains-kept, HasCodes, IsDue, IsPrepared, IsStep-clause}
 use Rattle.resolver_encoding.proofs.EncodingLemmas.{IsStep-same, IsWithin-push, StaysRight}
@@ -110,7 +110,7 @@ module _ {N S : Type 0} (u : Universe N S) where
 
   -- only a package that is noted as asked is a new call
   asked_alone : (old mid : Notes N S) (n : N) → mid.asked ≡ old.asked → mid.seen ≡ old.seen → (call : Call N S) →
-      IsFollowed (record mid { asked = mid.asked ++ n ∷ [] }) call → IsFollowed old call ⊎ IsAsking n call
+      IsCallMade (record mid { asked = mid.asked ++ n ∷ [] }) call → IsCallMade old call ⊎ IsAsking n call
   asked_alone old mid n asked seen (to_ask m) h = let Has : List N → Type 0 = λ list. Contains list m in
       ⊎_elim (λ (earlier : Contains mid.asked m). inl (subst Has asked earlier)) (λ (is : n ≡ m). inr is) (Contains-push_cases mid.asked n m h)
   asked_alone old mid n asked seen (to_see s) h = let Has : List S → Type 0 = λ list. Contains list s in inl (subst Has seen h)

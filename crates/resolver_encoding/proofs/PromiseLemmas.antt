@@ -33,7 +33,7 @@ use Rattle.resolver_encoding.specs.ReadState.{AreSeeds}
 use Rattle.resolver_encoding.specs.SoFar.{IsReadSoFar}
 use Rattle.resolver_clause_store.specs.Statements.{AllMeet}
 use Rattle.resolver_encoding.specs.TrailAtoms.{IsFirstOpen, IsBecause, needed, needed_gate, seeded, left_out, forced, IsTrail, begun, went_on}
-use Rattle.resolver_encoding.specs.TrailAtoms.{IsChosen}
+use Rattle.resolver_encoding.specs.TrailAtoms.{IsChosenBy}
 use Rattle.resolver_encoding.specs.Trails.{AreAssumed, atoms_before, solvables_before}
 use Rattle.resolver_encoding.specs.Truth.{AreCodes, HasLawfulSolvables, is_plain, follows, IsTrueClause, Spares}
 use Rattle.resolver_encoding.proofs.Bridge.{finished_is_valid, is_chosen, is_trail}
@@ -146,7 +146,7 @@ module _ {N S : Type 0} (u : Universe N S) (root : Demands) (lawful : HasLawfulS
         (λ t. agrees earlier rest a t)
         (cons_cases b earlier a inside)
 
-    chosen_within : (trail : List (Atom N S)) (chosen : List S) → IsTrail u kinds [] [] trail → IsChosen trail chosen → IsWithin chosen firsts
+    chosen_within : (trail : List (Atom N S)) (chosen : List S) → IsTrail u kinds [] [] trail → IsChosenBy trail chosen → IsWithin chosen firsts
     chosen_within trail chosen trailed are s inside =
         contains-has u (follows u codes) lawful.same_solvable firsts s (agrees trail trailed (atom (Solvable s) true) (are.each_true s inside))
 

@@ -29,7 +29,7 @@ use Rattle.resolver_clause_store.specs.Statements.{IsPresent, AllMeet}
 use Rattle.resolver_clause_store.specs.TrueRules.{demands_by}
 use Rattle.resolver_encoding.specs.Atoms.{Atom, atom, atoms_of, origin_by}
 use Rattle.resolver_encoding.specs.Called.{Call, IsDemanded, IsNamedBy, IsWantedBy, to_ask, to_see}
-use Rattle.resolver_encoding.specs.Encodings.{HasProperHelper, IsEncoding, IsFollowed, IsReadStep, IsTrueEntry, IsUnmet, Notes}
+use Rattle.resolver_encoding.specs.Encodings.{HasProperHelper, IsCallMade, IsEncoding, IsReadStep, IsTrueEntry, IsUnmet, Notes}
 use Rattle.resolver_encoding.specs.Reach.{AreNear}
 use Rattle.resolver_encoding.specs.ReadState.{Deferred}
 use Rattle.resolver_encoding.specs.SoFar.{IsBare, IsFiring, IsHalfRead, IsReadSoFar, IsReadingOf}
@@ -88,11 +88,11 @@ module _ {N S : Type 0} (u : Universe N S) (root : Demands) (seeds : List S) (pa
       (active_by u set (map (matching u) e.disjunct) is_true.0.condition is_true.3 met))
       call (subst Wanted (sym is_true.2) wanted)
 
-  followed_led : (notes : Notes N S) → AreNear u root seeds packages notes → (call : Call N S) → IsFollowed notes call → IsLed call
+  followed_led : (notes : Notes N S) → AreNear u root seeds packages notes → (call : Call N S) → IsCallMade notes call → IsLed call
   followed_led notes near (to_ask n) h = near.asked n h
   followed_led notes near (to_see s) h = near.seen s h
 
-  near_where : (notes : Notes N S) → ((s : S) → Contains notes.read s → Near s) → ((call : Call N S) → IsFollowed notes call → IsLed call) →
+  near_where : (notes : Notes N S) → ((s : S) → Contains notes.read s → Near s) → ((call : Call N S) → IsCallMade notes call → IsLed call) →
       AreNear u root seeds packages notes
   near_where notes read led = record { seen = λ s h. led (to_see s) h; read = read; asked = λ n h. led (to_ask n) h }
 
@@ -104,7 +104,7 @@ module _ {N S : Type 0} (u : Universe N S) (root : Demands) (seeds : List S) (pa
       let new_near : (s : S) → Contains new.read s → Near s = λ s h. ⊎_elim (λ earlier. near.read s earlier) (λ may. reads s may) (reading.reads s h) in
       near_where new new_near
       (λ call h. ⊎_elim
-      (λ (earlier : IsFollowed old call). followed_led old near call earlier)
+      (λ (earlier : IsCallMade old call). followed_led old near call earlier)
       (λ w. demanded_led set new.read set_near new_near (BySolvable w.0) w.1 call w.2)
       (reading.called call h))
 
@@ -119,7 +119,7 @@ module _ {N S : Type 0} (u : Universe N S) (root : Demands) (seeds : List S) (pa
       let Has : S → List S → Type 0 = λ s list. Contains list s in
       near_where new (λ s h. mid_near s (subst (Has s) firing.read h))
       (λ call h. ⊎_elim
-      (λ (was : IsFollowed mid call). followed_led mid here call was)
+      (λ (was : IsCallMade mid call). followed_led mid here call was)
       (λ w. entry_led set mid.read set_near mid_near w.0 (half.encoding.left_true w.0 w.1) (half.left_read w.0 w.1) w.2 call w.3)
       (firing.called call h))
 
@@ -138,7 +138,7 @@ module _ {N S : Type 0} (u : Universe N S) (root : Demands) (seeds : List S) (pa
 -- the root alone leads to its unconditional demands
 module _ {N S : Type 0} (u : Universe N S) (root : Demands) (seeds : List S) (packages : List N) (bare new : Notes N S)
     (step : IsReadStep u (IsUnmet u [] ByRoot) (IsDemanded u [] root) (λ r. demands_by u r ByRoot ≡ root) bare new) (nothing : IsBare bare) where
-  none_followed : (call : Call N S) → IsFollowed bare call → ⊥
+  none_followed : (call : Call N S) → IsCallMade bare call → ⊥
   none_followed (to_ask n) h = let Has : List N → Type 0 = λ list. Contains list n in none_in n (subst Has nothing.none_asked h)
   none_followed (to_see s) h = let Has : List S → Type 0 = λ list. Contains list s in none_in s (subst Has nothing.none_seen h)
 
@@ -148,7 +148,7 @@ module _ {N S : Type 0} (u : Universe N S) (root : Demands) (seeds : List S) (pa
   pub root_near : AreNear u root seeds packages new
   root_near = near_where u root seeds packages new (λ s h. absurd (none_read s h))
       (λ call h. ⊎_elim
-      (λ (before : IsFollowed bare call). absurd (none_followed call before))
+      (λ (before : IsCallMade bare call). absurd (none_followed call before))
       (λ demanded. demanded_led u root seeds packages [] [] (λ s k. absurd (none_in s k)) (λ s k. absurd (none_in s k)) ByRoot tt call demanded)
       (step.called call h))
 

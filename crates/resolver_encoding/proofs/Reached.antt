@@ -24,8 +24,9 @@ use Rattle.resolver_clause_store.specs.Conditions.{IsActive, OptionalConditionHo
 use Rattle.resolver_clause_store.specs.declared.ConditionId.{ConditionId}
 use Rattle.resolver_encoding.specs.Atoms.{Atom, atom, atoms_of, is_on, is_satisfied}
 use Rattle.resolver_encoding.specs.Truth.{AreCodes, is_plain, follows, IsTrueClause, Spares}
-use Rattle.resolver_encoding.specs.Read.{IsSettled, IsClosedPart}
-use Rattle.resolver_encoding.specs.TrailAtoms.{IsFirstOpen, IsBecause, needed, needed_gate, seeded, left_out, forced, IsTrail, begun, went_on, Takes, IsChosen}
+use Rattle.resolver_encoding.specs.Read.{AreValuesSettled, IsClosedPart}
+use Rattle.resolver_encoding.specs.TrailAtoms.{IsFirstOpen, IsBecause, needed, needed_gate, seeded, left_out, forced, IsTrail, begun, went_on, Takes}
+use Rattle.resolver_encoding.specs.TrailAtoms.{IsChosenBy}
 use Rattle.resolver_encoding.specs.TrailAtoms.{CoversReached, IsAnswerBy}
 use Rattle.resolver_encoding.proofs.Satisfied.{has-contains, contains-has, present, helper_meets, satisfied}
 use Rattle.resolver_encoding.proofs.Sound.{is_plain-parts, defines, valid_obeys}
@@ -44,8 +45,9 @@ first_open_candidate {N} {S} u earlier r s it =
 
 module _ {N S : Type 0} (u : Universe N S) (root : Demands) (lawful : HasLawfulSolvables u) (kinds : List (ClauseKind N S)) (codes : N → ℕ → S → Bool)
     (are_codes : AreCodes u codes) (are_true : All (IsTrueClause u codes root) kinds)
-    (seeds refused exempt : List S) (spares : Spares u exempt kinds) (trail : List (Atom N S)) (settled : IsSettled u kinds (Takes trail)) (chosen : List S)
-    (is_chosen : IsChosen trail chosen)
+    (seeds refused exempt : List S) (spares : Spares u exempt kinds) (trail : List (Atom N S)) (settled : AreValuesSettled u kinds (Takes trail))
+        (chosen : List S)
+    (is_chosen : IsChosenBy trail chosen)
     (covers : CoversReached u root kinds chosen seeds exempt) where
   c : Closure u root lawful chosen seeds
   c = closure u root lawful chosen seeds
@@ -150,7 +152,7 @@ module _ {N S : Type 0} (u : Universe N S) (root : Demands) (lawful : HasLawfulS
 pub finished_is_answer : {N S : Type 0} (u : Universe N S) (codes : N → ℕ → S → Bool) (root : Demands) (kinds : List (ClauseKind N S)) (trail : List (Atom N S))
     (chosen seeds refused exempt : List S) →
     HasLawfulSolvables u → AreCodes u codes → All (IsTrueClause u codes root) kinds → Spares u exempt kinds → IsTrail u kinds seeds refused trail →
-    IsSettled u kinds (Takes trail) → IsChosen trail chosen → CoversReached u root kinds chosen seeds exempt →
+    AreValuesSettled u kinds (Takes trail) → IsChosenBy trail chosen → CoversReached u root kinds chosen seeds exempt →
     IsAnswerBy u root chosen seeds exempt
 finished_is_answer u codes root kinds trail chosen seeds refused exempt lawful are_codes are_true spares is_trail settled is_chosen covers = record {
   valid = chosen_is_valid u root lawful kinds codes are_codes are_true seeds refused exempt spares trail settled chosen is_chosen covers is_trail;

@@ -14,9 +14,9 @@ use Rattle.resolver_clause_store.specs.declared.ClauseKind.TheVariants.{Constrai
 use Rattle.resolver_clause_store.specs.declared.Origin.TheVariants.{Root, Solvable, Bit, Gate, ConstraintHelper, ConditionHelper}
 use Rattle.resolver_encoding.specs.Called.{Call, IsSeeing, to_ask, to_see}
 use Rattle.resolver_encoding.specs.Codes.{bit}
-use Rattle.resolver_encoding.specs.Encodings.{AddsKind, Coding, Extends, HasProperHelper, IsAskStep, IsEncoding, IsEncodingWhile, IsFollowed, IsStepWhile}
+use Rattle.resolver_encoding.specs.Encodings.{AddsKind, Coding, Extends, HasProperHelper, IsAskStep, IsCallMade, IsEncoding, IsEncodingWhile, IsStepWhile}
 use Rattle.resolver_encoding.specs.Encodings.{Notes, coding_for}
-use Rattle.resolver_encoding.specs.Groups.{AddsNamed, AreGroups, IsAt, IsNamed}
+use Rattle.resolver_encoding.specs.Groups.{AddsNamed, AreGroups, IsAt, IsInGroup}
 use Rattle.resolver_encoding.specs.declared.groups.Groups.{Groups}
 use Rattle.resolver_encoding.specs.Truth.{AreCodes, IsTrueClause}
 use Rattle.resolver_encoding.proofs.EncodingLemmas.{Extends-push, IsStep-clause, IsWithin-push}
@@ -163,7 +163,7 @@ module _ {N S : Type 0} (u : Universe N S) where
 
     -- only a solvable that is noted as registered is a new call
     seen_alone : (old mid : Notes N S) (groups : Groups N S) → mid.asked ≡ old.asked → mid.seen ≡ old.seen → (call : Call N S) →
-        IsFollowed (record mid { seen = mid.seen ++ s ∷ []; groups = groups }) call → IsFollowed old call ⊎ IsSeeing s call
+        IsCallMade (record mid { seen = mid.seen ++ s ∷ []; groups = groups }) call → IsCallMade old call ⊎ IsSeeing s call
     seen_alone old mid groups asked seen (to_ask m) h = let Has : List N → Type 0 = λ list. Contains list m in inl (subst Has asked h)
     seen_alone old mid groups asked seen (to_see t) h = let Has : List S → Type 0 = λ list. Contains list t in
         ⊎_elim (λ (earlier : Contains mid.seen t). inl (subst Has seen earlier)) (λ (is : s ≡ t). inr is) (Contains-push_cases mid.seen s t h)
@@ -248,10 +248,10 @@ module _ {N S : Type 0} (u : Universe N S) where
             subst (λ q. Digit q j t) (sym is.0)
             (subst (λ a. Digit n a t) (sym (is.1 ∙ number)) (subst (λ x. Digit n k x) (sym is.2) (own i (omega (arith, reached, largest))))))
             (added.only_at m j t at) in
-            let Named : S → Type 0 = λ q. IsNamed groups (u.name q) q in
-            let Of : N → Type 0 = λ m. IsNamed groups m s in
+            let Named : S → Type 0 = λ q. IsInGroup groups (u.name q) q in
+            let Of : N → Type 0 = λ m. IsInGroup groups m s in
             let grouped = holds_also Named mid.seen s (λ t earlier. added.earlier (u.name t) t (before.grouped t earlier)) (subst Of (sym name) added.here) in
-            let members : (m : N) (t : S) → IsNamed groups m t → (u.name t ≡ m) × Seen t =
+            let members : (m : N) (t : S) → IsInGroup groups m t → (u.name t ≡ m) × Seen t =
             λ m t h. ⊎_elim
             (λ earlier. let w = before.members m t earlier in (w.0, more t w.1))
             (λ (is : (m ≡ n) × (t ≡ s)). (ap u.name is.1 ∙ name ∙ sym is.0, subst Seen (sym is.1) (Contains-push mid.seen s)))

@@ -23,9 +23,9 @@ use Rattle.resolver_clause_store.proofs.PlaceLemmas.{place_left, place_of_member
 use Rattle.resolver_clause_store.specs.Statements.{IsPresent, AllMeet}
 use Rattle.resolver_clause_store.specs.TrueRules.{demands_by}
 use Rattle.resolver_encoding.specs.Called.{AreAsked, Call, IsCalledFor, IsDemanded, IsNamedIn, to_ask}
-use Rattle.resolver_encoding.specs.Encodings.{AreDemandsRead, AreNeedsRead, Extends, IsConstraintRead, IsEncoding, IsFollowed, IsLeft, IsReadStep}
+use Rattle.resolver_encoding.specs.Encodings.{AreDemandsRead, AreNeedsRead, Extends, IsCallMade, IsConstraintRead, IsEncoding, IsLeft, IsReadStep}
 use Rattle.resolver_encoding.specs.Encodings.{IsUnmet, Notes}
-use Rattle.resolver_encoding.specs.Groups.{IsNamed}
+use Rattle.resolver_encoding.specs.Groups.{IsInGroup}
 use Rattle.resolver_encoding.specs.Hints.{IsListedFrom}
 use Rattle.resolver_encoding.specs.ReadState.{Deferred, HasClause, IsReadRequirement, NoneFires}
 use Rattle.resolver_encoding.specs.SoFar.{HasFired, HasRead, IsBare, IsFiring, IsHalfRead, IsMoreOrSame, IsProgress, IsQuietUnder, IsReadMore, IsReadSoFar}
@@ -70,7 +70,7 @@ module _ {N S : Type 0} (u : Universe N S) (set : List S) where
   pub IsReadingOf-trans : (Reads : S → Type 0) (one two three : Notes N S) → IsReadingOf u set Reads one two → IsReadingOf u set Reads two three →
       IsReadingOf u set Reads one three
   IsReadingOf-trans Reads one two three first second =
-      let called = λ (call : Call N S) (h : IsFollowed three call). ⊎_elim
+      let called = λ (call : Call N S) (h : IsCallMade three call). ⊎_elim
       (λ before. ⊎_elim (λ earlier. inl earlier) (λ w. inr (w.0, Extends-within two.read three.read second.read w.0 w.1, w.2)) (first.called call before))
       (λ demanded. inr demanded)
       (second.called call h) in
@@ -187,8 +187,8 @@ module _ {N S : Type 0} (u : Universe N S) (set : List S) where
       quiet_behind : (i : ℕ) (e : Deferred S) → slice_get new.deferred i ≡ Some (Some e) → AllMeet set (map (matching u) e.disjunct) → (v : VersionSetId) →
           Contains e.disjunct v → (s : S) → Contains (drop from set) s → Contains (matching u v) s → ⊥
       quiet_behind i e at met v inside s behind matches =
-          let Named : N → Type 0 = λ n. IsNamed new.deferred_by_name n i in
-          let named : IsNamed new.deferred_by_name (u.name s) i =
+          let Named : N → Type 0 = λ n. IsInGroup new.deferred_by_name n i in
+          let named : IsInGroup new.deferred_by_name (u.name s) i =
           subst Named (sym (matching_named u packages v s matches)) (half_after.encoding.indexed i e at v inside) in
           let here_quiet : IsQuietUnder u set new (u.name s) = All-contains (λ t. IsQuietUnder u set new (u.name t)) (drop from set) s quiet behind in
           (here_quiet.quiet i named).quiet e at met
@@ -299,7 +299,7 @@ module _ {N S : Type 0} (u : Universe N S) (set : List S) (s : S) (old mid new :
   pub IsReadingOf-read : IsReadingOf u set (λ t. s ≡ t) old new
   IsReadingOf-read =
       let Reading : Notes N S → Type 0 = λ n. IsReadingOf u set (λ t. s ≡ t) old n in
-      let called : (call : Call N S) → IsFollowed mid call → IsFollowed old call ⊎
+      let called : (call : Call N S) → IsCallMade mid call → IsCallMade old call ⊎
       ((t : S) × Contains (mid.read ++ s ∷ []) t × IsDemanded u set (demands_of (u.needs t)) call) =
       λ call h. ⊎_elim (λ before. inl before) (λ demanded. inr (s, Contains-push mid.read s, demanded)) (step.called call h) in
       let read : Extends old.read (mid.read ++ s ∷ []) = record { more = s ∷ []; is = ap (λ list. list ++ s ∷ []) step.read } in

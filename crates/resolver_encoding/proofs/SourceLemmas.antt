@@ -8,7 +8,7 @@ use Rattle.resolver_clause_store.specs.declared.VersionSetId.{VersionSetId}
 use Rattle.resolver_clause_store.specs.declared.Origin.TheVariants.{Gate, ConstraintHelper}
 use Rattle.resolver_clause_store.specs.declared.ClauseKind.{ClauseKind}
 use Rattle.resolver_clause_store.specs.declared.ClauseKind.TheVariants.{InstallRoot, AnyOf, ConstrainsExcluded}
-use Rattle.resolver_encoding.specs.Groups.{AddsNamed, AreGroups, IsNamed}
+use Rattle.resolver_encoding.specs.Groups.{AddsNamed, AreGroups, IsInGroup}
 use Rattle.resolver_encoding.specs.Sources.{AreSources, HasGroups, IsExcludedIn}
 use Rattle.resolver_encoding.specs.declared.groups.Groups.{Groups}
 use Rattle.resolver_encoding.specs.declared.sources.Sources.{Sources}
@@ -56,9 +56,9 @@ module _ {N S : Type 0} (kinds : List (ClauseKind N S)) (k : ClauseKind N S) whe
   pub requirer_noted : (old new : Sources S) (r : Requirement) (s : S) → k ≡ AnyOf (Gate r) s → AddsNamed old.gates new.gates r s → new.helpers ≡ old.helpers →
       AreSources kinds old → AreSources (kinds ++ k ∷ []) new
   requirer_noted old new r s is adds helpers are =
-      let Named : Groups VersionSetId S → VersionSetId → S → Type 0 = λ g v t. IsNamed g v t in
+      let Named : Groups VersionSetId S → VersionSetId → S → Type 0 = λ g v t. IsInGroup g v t in
       let Sound : Groups VersionSetId S → Type 0 = λ g. AreGroups g in
-      let New : Requirement → S → Type 0 = λ q t. IsNamed new.gates q t in
+      let New : Requirement → S → Type 0 = λ q t. IsInGroup new.gates q t in
       let Has : ClauseKind N S → Type 0 = λ q. Contains (kinds ++ k ∷ []) q in
       let Of : Requirement → S → ClauseKind N S = λ q t. AnyOf (Gate q) t in
       record {
@@ -81,9 +81,9 @@ module _ {N S : Type 0} (kinds : List (ClauseKind N S)) (k : ClauseKind N S) whe
   pub excluded_noted : (old new : Sources S) (v : VersionSetId) (s : S) → (k ≡ ConstrainsExcluded s v) ⊎ (k ≡ AnyOf (ConstraintHelper v) s) →
       AddsNamed old.helpers new.helpers v s → new.gates ≡ old.gates → AreSources kinds old → AreSources (kinds ++ k ∷ []) new
   excluded_noted old new v s is adds gates are =
-      let Named : Groups Requirement S → Requirement → S → Type 0 = λ g r t. IsNamed g r t in
+      let Named : Groups Requirement S → Requirement → S → Type 0 = λ g r t. IsInGroup g r t in
       let Sound : Groups Requirement S → Type 0 = λ g. AreGroups g in
-      let New : VersionSetId → S → Type 0 = λ w t. IsNamed new.helpers w t in
+      let New : VersionSetId → S → Type 0 = λ w t. IsInGroup new.helpers w t in
       let Has : ClauseKind N S → Type 0 = λ q. Contains (kinds ++ k ∷ []) q in
       let Of : VersionSetId → S → ClauseKind N S = λ w t. ConstrainsExcluded t w in
       let By : VersionSetId → S → ClauseKind N S = λ w t. AnyOf (ConstraintHelper w) t in
@@ -128,8 +128,8 @@ sources_next {N} {S} kinds numbers i n k sources below is kind_is are =
     subst Are (sym (kinds_next kinds numbers i n k below is kind_is)) are
 
 -- without clauses there are no sources
-pub no_sources : {N S : Type 0} (sources : Sources S) → HasGroups sources → ((r : Requirement) (s : S) → IsNamed sources.gates r s → ⊥) →
-    ((v : VersionSetId) (s : S) → IsNamed sources.helpers v s → ⊥) → AreSources {N = N} [] sources
+pub no_sources : {N S : Type 0} (sources : Sources S) → HasGroups sources → ((r : Requirement) (s : S) → IsInGroup sources.gates r s → ⊥) →
+    ((v : VersionSetId) (s : S) → IsInGroup sources.helpers v s → ⊥) → AreSources {N = N} [] sources
 no_sources {N} {S} sources groups no_requirer no_excluded = record {
   groups = groups;
   only_requirers = λ r s h. absurd (no_requirer r s h);

@@ -23,7 +23,7 @@ use Rattle.resolver_clause_store.specs.Statements.{AllMeet}
 use Rattle.resolver_clause_store.specs.TrueRules.{demands_by, Implies}
 use Rattle.resolver_encoding.specs.Atoms.{Atom}
 use Rattle.resolver_encoding.specs.Called.{Call, to_ask, to_see}
-use Rattle.resolver_encoding.specs.Groups.{AreGroups, IsAt, IsNamed}
+use Rattle.resolver_encoding.specs.Groups.{AreGroups, IsAt, IsInGroup}
 use Rattle.resolver_encoding.specs.Codes.{bit}
 use Rattle.resolver_encoding.specs.Read.{IsForbidden}
 use Rattle.resolver_encoding.specs.ReadState.{Deferred, HasClause, IsReadRequirement}
@@ -166,12 +166,12 @@ pub record IsEncodingWhile {N S : Type 0} (u : Universe N S) (doing : Doing N S)
       Contains notes.kinds (HasBit n s i (bit j i))
   -- each registered solvable is in the group of its name, and no other solvable is in a group
   pub sound_groups : AreGroups notes.groups
-  pub grouped : (s : S) → Contains notes.seen s → IsNamed notes.groups (u.name s) s
-  pub members : (n : N) (s : S) → IsNamed notes.groups n s → (u.name s ≡ n) × Contains notes.seen s
+  pub grouped : (s : S) → Contains notes.seen s → IsInGroup notes.groups (u.name s) s
+  pub members : (n : N) (s : S) → IsInGroup notes.groups n s → (u.name s ≡ n) × Contains notes.seen s
   -- for each deferred disjunct
   pub left_true : (e : Deferred S) → IsLeft notes e → IsTrueEntry u root e
   pub indexed : (i : ℕ) (e : Deferred S) → slice_get notes.deferred i ≡ Some (Some e) → (v : VersionSetId) → Contains e.disjunct v →
-      IsNamed notes.deferred_by_name (u.version_set_name v) i
+      IsInGroup notes.deferred_by_name (u.version_set_name v) i
   pub sound_deferred_by_name : AreGroups notes.deferred_by_name
 
 -- the notes are an encoding, and no work is in progress
@@ -222,15 +222,15 @@ abbrev pub IsStep : {N S : Type 0} → Universe N S → (Demands → Type 0) →
 IsStep u Premise old new = IsStepWhile u idle Premise old new
 
 -- the package was asked, or the candidate is registered
-abbrev pub IsFollowed : {N S : Type 0} → Notes N S → Call N S → Type 0
-IsFollowed notes (to_ask n) = Contains notes.asked n
-IsFollowed notes (to_see s) = Contains notes.seen s
+abbrev pub IsCallMade : {N S : Type 0} → Notes N S → Call N S → Type 0
+IsCallMade notes (to_ask n) = Contains notes.asked n
+IsCallMade notes (to_see s) = Contains notes.seen s
 
 -- The notes grew. Only packages and candidates that are called for were asked or registered, and no disjunct was
 -- deferred.
 pub record IsAskStep {N S : Type 0} (u : Universe N S) (Called : Call N S → Type 0) (Premise : Demands → Type 0) (old new : Notes N S) : Type 0 where
   pub growth : IsGrowth old new
-  pub called : (call : Call N S) → IsFollowed new call → IsFollowed old call ⊎ Called call
+  pub called : (call : Call N S) → IsCallMade new call → IsCallMade old call ⊎ Called call
   pub read : new.read ≡ old.read
   pub deferred : new.deferred ≡ old.deferred
   pub deferred_by_name : new.deferred_by_name ≡ old.deferred_by_name
@@ -246,7 +246,7 @@ pub record IsUnmet {N S : Type 0} (u : Universe N S) (set : List S) (by : By S) 
 pub record IsReadStep {N S : Type 0} (u : Universe N S) (Defers : Deferred S → Type 0) (Called : Call N S → Type 0) (Premise : Demands → Type 0)
     (old new : Notes N S) : Type 0 where
   pub growth : IsGrowth old new
-  pub called : (call : Call N S) → IsFollowed new call → IsFollowed old call ⊎ Called call
+  pub called : (call : Call N S) → IsCallMade new call → IsCallMade old call ⊎ Called call
   pub read : new.read ≡ old.read
   pub deferred : Extends old.deferred new.deferred
   pub defers : (e : Deferred S) → IsLeft new e → IsLeft old e ⊎ Defers e
@@ -269,7 +269,7 @@ pub record IsUnread {N S : Type 0} (notes : Notes N S) : Type 0 where
   pub no_requirements : notes.requirements ≡ []
   pub none_seen : notes.seen ≡ []
   pub sound_groups : AreGroups notes.groups
-  pub no_groups : (n : N) (s : S) → IsNamed notes.groups n s → ⊥
+  pub no_groups : (n : N) (s : S) → IsInGroup notes.groups n s → ⊥
   pub none_asked : notes.asked ≡ []
   pub none_helped : notes.helped ≡ []
   pub no_gates : notes.gates ≡ []

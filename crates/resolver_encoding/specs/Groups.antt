@@ -14,7 +14,7 @@ pub record AreGroups {N S : Type 0} (g : Groups N S) : Type 0 where
   pub distinct : AreDistinct g.names.keys
 
 -- the solvable is in the group of the name
-pub record IsNamed {N S : Type 0} (g : Groups N S) (n : N) (s : S) : Type 0 where
+pub record IsInGroup {N S : Type 0} (g : Groups N S) (n : N) (s : S) : Type 0 where
   pub place : ℕ
   pub named : slice_get g.names.keys place ≡ Some n
   pub inside : Contains (group_at g.members place) s
@@ -28,9 +28,9 @@ pub record IsAt {N S : Type 0} (g : Groups N S) (n : N) (number : ℕ) (s : S) :
 -- one more solvable is in the group of the name
 pub record AddsNamed {N S : Type 0} (old new : Groups N S) (n : N) (s : S) : Type 0 where
   pub sound : AreGroups new
-  pub earlier : (m : N) (t : S) → IsNamed old m t → IsNamed new m t
-  pub here : IsNamed new n s
-  pub only : (m : N) (t : S) → IsNamed new m t → IsNamed old m t ⊎ ((m ≡ n) × (t ≡ s))
+  pub earlier : (m : N) (t : S) → IsInGroup old m t → IsInGroup new m t
+  pub here : IsInGroup new n s
+  pub only : (m : N) (t : S) → IsInGroup new m t → IsInGroup old m t ⊎ ((m ≡ n) × (t ≡ s))
   -- its number follows those of its group, and the others keep theirs
   pub number : ℕ
   pub here_at : IsAt new n number s

@@ -21,7 +21,7 @@ use Rattle.resolver_encoding.specs.Atoms.{IsHelper, Atom, origin_by, atoms_of}
 
 -- values, of which an origin may have none: no clause is false, none forces a helper without a value, and no
 -- requirement is left to decide
-pub record IsSettled {N S : Type 0} (u : Universe N S) (kinds : List (ClauseKind N S)) (Takes : Origin N S → Bool → Type 0) : Type 0 where
+pub record AreValuesSettled {N S : Type 0} (u : Universe N S) (kinds : List (ClauseKind N S)) (Takes : Origin N S → Bool → Type 0) : Type 0 where
   pub apart : (o : Origin N S) → Takes o true → Takes o false → ⊥
   pub root_taken : Takes Root true
   pub no_false : (k : ClauseKind N S) → Contains kinds k → ((b : Atom N S) → Contains (atoms_of u k) b → Takes b.origin (not b.positive)) → ⊥
@@ -49,7 +49,7 @@ pub data AreApart {N S : Type 0} (kinds : List (ClauseKind N S)) (n : N) (s t : 
   apart_coded : (i : ℕ) (b : Bool) → Contains kinds (HasBit n s i b) → Contains kinds (HasBit n t i (not b)) → AreApart kinds n s t
 
 -- the clauses cover all that the rules of the root and of the chosen solvables state about the chosen ones
-pub record Covers {N S : Type 0} (u : Universe N S) (root : Demands) (kinds : List (ClauseKind N S)) (chosen exempt : List S) : Type 0 where
+pub record CoversChosen {N S : Type 0} (u : Universe N S) (root : Demands) (kinds : List (ClauseKind N S)) (chosen exempt : List S) : Type 0 where
   pub installs : Contains kinds InstallRoot
   -- each active requirement has its clause under a disjunct that holds, or the clauses of its gate
   pub requirements : (by : By S) (r : ConditionalRequirement) → IsPresent by chosen → Contains (demands_by u root by).requirements r →

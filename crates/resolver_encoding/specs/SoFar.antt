@@ -10,8 +10,8 @@ use Rattle.resolver_clause_store.specs.declared.By.TheVariants.{Root as ByRoot}
 use Rattle.resolver_clause_store.specs.declared.Origin.TheVariants.{Solvable}
 use Rattle.resolver_clause_store.specs.Statements.{IsPresent, AllMeet}
 use Rattle.resolver_encoding.specs.Called.{Call, IsDemanded, IsWantedBy}
-use Rattle.resolver_encoding.specs.Encodings.{AreDemandsRead, AreNeedsRead, Extends, IsEncoding, IsFollowed, IsGrowth, IsLeft, Notes}
-use Rattle.resolver_encoding.specs.Groups.{AreGroups, IsNamed}
+use Rattle.resolver_encoding.specs.Encodings.{AreDemandsRead, AreNeedsRead, Extends, IsCallMade, IsEncoding, IsGrowth, IsLeft, Notes}
+use Rattle.resolver_encoding.specs.Groups.{AreGroups, IsInGroup}
 use Rattle.resolver_encoding.specs.Hints.{IsListedFrom}
 use Rattle.resolver_encoding.specs.Reach.{AreNear}
 use Rattle.resolver_encoding.specs.ReadState.{Deferred, HasClause, NoneFires}
@@ -89,16 +89,16 @@ pub record IsIndexing {N S : Type 0} (u : Universe N S) (number : ℕ) (list : L
   pub deferred_by_name : Groups N ℕ
   pub is : new ≡ record old { deferred_by_name = deferred_by_name }
   pub sound : AreGroups old.deferred_by_name → AreGroups deferred_by_name
-  pub earlier : AreGroups old.deferred_by_name → (n : N) (i : ℕ) → IsNamed old.deferred_by_name n i → IsNamed deferred_by_name n i
-  pub here : AreGroups old.deferred_by_name → All (λ v. IsNamed deferred_by_name (u.version_set_name v) number) list
+  pub earlier : AreGroups old.deferred_by_name → (n : N) (i : ℕ) → IsInGroup old.deferred_by_name n i → IsInGroup deferred_by_name n i
+  pub here : AreGroups old.deferred_by_name → All (λ v. IsInGroup deferred_by_name (u.version_set_name v) number) list
 
 -- one more disjunct was deferred
 pub record IsDeferral {N S : Type 0} (u : Universe N S) (e : Deferred S) (old new : Notes N S) : Type 0 where
   pub deferred_by_name : Groups N ℕ
   pub is : new ≡ record old { deferred_by_name = deferred_by_name; deferred = old.deferred ++ Some e ∷ [] }
   pub sound : AreGroups old.deferred_by_name → AreGroups deferred_by_name
-  pub earlier : AreGroups old.deferred_by_name → (n : N) (i : ℕ) → IsNamed old.deferred_by_name n i → IsNamed deferred_by_name n i
-  pub here : AreGroups old.deferred_by_name → All (λ v. IsNamed deferred_by_name (u.version_set_name v) (length old.deferred)) e.disjunct
+  pub earlier : AreGroups old.deferred_by_name → (n : N) (i : ℕ) → IsInGroup old.deferred_by_name n i → IsInGroup deferred_by_name n i
+  pub here : AreGroups old.deferred_by_name → All (λ v. IsInGroup deferred_by_name (u.version_set_name v) (length old.deferred)) e.disjunct
 
 -- the deferred disjunct with this number was removed
 pub record IsTakenOut {N S : Type 0} (number : ℕ) (e : Deferred S) (old new : Notes N S) : Type 0 where
@@ -117,13 +117,13 @@ pub record IsQuietAt {N S : Type 0} (u : Universe N S) (set : List S) (notes : N
 
 -- the same for each disjunct that is noted under the package
 pub record IsQuietUnder {N S : Type 0} (u : Universe N S) (set : List S) (notes : Notes N S) (n : N) : Type 0 where
-  pub quiet : (i : ℕ) → IsNamed notes.deferred_by_name n i → IsQuietAt u set notes i
+  pub quiet : (i : ℕ) → IsInGroup notes.deferred_by_name n i → IsQuietAt u set notes i
 
 -- Disjuncts that are met in the set were removed, and each has its clause. Only packages of their requirements were
 -- asked, and only candidates of these registered.
 pub record IsFiring {N S : Type 0} (u : Universe N S) (set : List S) (old new : Notes N S) : Type 0 where
   pub growth : IsGrowth old new
-  pub called : (call : Call N S) → IsFollowed new call → IsFollowed old call ⊎
+  pub called : (call : Call N S) → IsCallMade new call → IsCallMade old call ⊎
       ((e : Deferred S) × IsLeft old e × AllMeet set (map (matching u) e.disjunct) × IsWantedBy u e.requirement call)
   pub read : new.read ≡ old.read
   pub deferred_by_name : new.deferred_by_name ≡ old.deferred_by_name
@@ -136,7 +136,7 @@ pub record IsFiring {N S : Type 0} (u : Universe N S) (set : List S) (old new : 
 -- disjuncts that are not met in it were deferred.
 pub record IsReadingOf {N S : Type 0} (u : Universe N S) (set : List S) (Reads : S → Type 0) (old new : Notes N S) : Type 0 where
   pub growth : IsGrowth old new
-  pub called : (call : Call N S) → IsFollowed new call → IsFollowed old call ⊎ ((s : S) × Contains new.read s × IsDemanded u set (demands_of (u.needs s)) call)
+  pub called : (call : Call N S) → IsCallMade new call → IsCallMade old call ⊎ ((s : S) × Contains new.read s × IsDemanded u set (demands_of (u.needs s)) call)
   pub read : Extends old.read new.read
   pub reads : (s : S) → Contains new.read s → Contains old.read s ⊎ Reads s
   pub deferred : Extends old.deferred new.deferred

@@ -5,7 +5,7 @@ use Rattle.resolver_clause_store.specs.declared.VersionSetId.{VersionSetId}
 use Rattle.resolver_clause_store.specs.declared.Origin.TheVariants.{Gate, ConstraintHelper}
 use Rattle.resolver_clause_store.specs.declared.ClauseKind.{ClauseKind}
 use Rattle.resolver_clause_store.specs.declared.ClauseKind.TheVariants.{AnyOf, ConstrainsExcluded}
-use Rattle.resolver_encoding.specs.Groups.{AreGroups, IsNamed}
+use Rattle.resolver_encoding.specs.Groups.{AreGroups, IsInGroup}
 use Rattle.resolver_encoding.specs.declared.sources.Sources.{Sources}
 
 -- the clauses state that the solvable implies the constraint helper of the version set
@@ -20,7 +20,7 @@ pub record HasGroups {S : Type 0} (sources : Sources S) : Type 0 where
 -- exactly the solvables are noted that imply the gates and the constraint helpers by these clauses
 pub record AreSources {N S : Type 0} (kinds : List (ClauseKind N S)) (sources : Sources S) : Type 0 where
   pub groups : HasGroups sources
-  pub only_requirers : (r : Requirement) (s : S) → IsNamed sources.gates r s → Contains kinds (AnyOf (Gate r) s)
-  pub every_requirer : (r : Requirement) (s : S) → Contains kinds (AnyOf (Gate r) s) → IsNamed sources.gates r s
-  pub only_excluded : (v : VersionSetId) (s : S) → IsNamed sources.helpers v s → IsExcludedIn kinds v s
-  pub every_excluded : (v : VersionSetId) (s : S) → IsExcludedIn kinds v s → IsNamed sources.helpers v s
+  pub only_requirers : (r : Requirement) (s : S) → IsInGroup sources.gates r s → Contains kinds (AnyOf (Gate r) s)
+  pub every_requirer : (r : Requirement) (s : S) → Contains kinds (AnyOf (Gate r) s) → IsInGroup sources.gates r s
+  pub only_excluded : (v : VersionSetId) (s : S) → IsInGroup sources.helpers v s → IsExcludedIn kinds v s
+  pub every_excluded : (v : VersionSetId) (s : S) → IsExcludedIn kinds v s → IsInGroup sources.helpers v s

@@ -13,7 +13,7 @@ use Rattle.resolver_clause_store.specs.declared.Origin.TheVariants.{Solvable, Ga
 use Rattle.resolver_clause_store.specs.declared.ClauseKind.{ClauseKind}
 use Rattle.resolver_clause_store.specs.declared.ClauseKind.TheVariants.{Requires, GateRequires}
 use Rattle.resolver_encoding.specs.Atoms.{Atom, atom, origin_by, atoms_of, is_satisfied}
-use Rattle.resolver_encoding.specs.Read.{Covers}
+use Rattle.resolver_encoding.specs.Read.{CoversChosen}
 
 -- the clause is true under all values that satisfy the clauses of the encoding
 pub record IsEntailed {N S : Type 0} (u : Universe N S) (kinds : List (ClauseKind N S)) (clause : List (Atom N S)) : Type 0 where
@@ -55,14 +55,14 @@ abbrev pub Takes : {N S : Type 0} → List (Atom N S) → Origin N S → Bool �
 Takes trail o b = Contains trail (atom o b)
 
 -- the chosen solvables are those that the trail makes true
-pub record IsChosen {N S : Type 0} (trail : List (Atom N S)) (chosen : List S) : Type 0 where
+pub record IsChosenBy {N S : Type 0} (trail : List (Atom N S)) (chosen : List S) : Type 0 where
   pub each_true : (s : S) → Contains chosen s → Contains trail (atom (Solvable s) true)
   pub each_chosen : (s : S) → Contains trail (atom (Solvable s) true) → Contains chosen s
 
 -- the clauses cover the rules of every part of the chosen solvables that is reached by need
 abbrev pub CoversReached : {N S : Type 0} → Universe N S → Demands → List (ClauseKind N S) → (chosen seeds exempt : List S) → Type 0
 CoversReached {N} {S} u root kinds chosen seeds exempt =
-    (part : List S) → IsWithin part chosen → ((s : S) → Contains part s → IsReached u root chosen seeds s) → Covers u root kinds part exempt
+    (part : List S) → IsWithin part chosen → ((s : S) → Contains part s → IsReached u root chosen seeds s) → CoversChosen u root kinds part exempt
 
 -- the chosen solvables answer the problem, and each is reached by need
 pub record IsAnswerBy {N S : Type 0} (u : Universe N S) (root : Demands) (chosen seeds exempt : List S) : Type 0 where

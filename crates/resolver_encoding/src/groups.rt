@@ -16,12 +16,12 @@ pub(crate) struct Groups<N: Copy + Eq + Hash + Drop, S: Copy + Drop> {
 }
 
 impl<N: Copy + Eq + Hash + Drop, S: Copy + Drop> Groups<N, S> {
-    ghost use Rattle.resolver_encoding.specs.Groups.{AddsNamed, AreGroups, IsAt, IsNamed, group_at};
+    ghost use Rattle.resolver_encoding.specs.Groups.{AddsNamed, AreGroups, IsAt, IsInGroup, group_at};
 
     /// Returns no groups.
     pub(crate) fn new(alloc: Global) -> Self
         ensures sound { AreGroups result }
-        ensures none { (n : N) (s : S) → IsNamed result n s → ⊥ }
+        ensures none { (n : N) (s : S) → IsInGroup result n s → ⊥ }
     {
         Groups {
             names: IndexSet::new(alloc),
@@ -32,8 +32,8 @@ impl<N: Copy + Eq + Hash + Drop, S: Copy + Drop> Groups<N, S> {
     /// Returns the solvables of a name.
     pub(crate) fn named(&self, name: N) -> &[S]
         requires { IsIdentity N.eq }
-        ensures each { All (IsNamed self.now name) result.now }
-        ensures every { AreGroups self.now → (s : S) → IsNamed self.now name s → Contains result.now s }
+        ensures each { All (IsInGroup self.now name) result.now }
+        ensures every { AreGroups self.now → (s : S) → IsInGroup self.now name s → Contains result.now s }
         ensures each_at { (k : ℕ) (s : S) → slice_get result.now k ≡ Some s → IsAt self.now name k s }
         ensures every_at { AreGroups self.now → (k : ℕ) (s : S) → IsAt self.now name k s → slice_get result.now k ≡ Some s }
     {

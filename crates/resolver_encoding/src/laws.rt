@@ -22,9 +22,9 @@ ghost use Rattle.resolver_clause_store.specs.declared.Origin.{Origin};
 ghost use Rattle.resolver_clause_store.specs.declared.Rule.{Rule};
 ghost use Rattle.resolver_encoding.specs.Atoms.{Atom};
 ghost use Rattle.resolver_encoding.specs.Core.{IsExplained, implied_in};
-ghost use Rattle.resolver_encoding.specs.Read.{IsSettled};
+ghost use Rattle.resolver_encoding.specs.Read.{AreValuesSettled};
 ghost use Rattle.resolver_encoding.specs.ReadState.{AreSeeds, Deferred, IsRead, NoneFires};
-ghost use Rattle.resolver_encoding.specs.TrailAtoms.{CoversReached, IsAnswerBy, IsChosen, IsTrail, Takes};
+ghost use Rattle.resolver_encoding.specs.TrailAtoms.{CoversReached, IsAnswerBy, IsChosenBy, IsTrail, Takes};
 ghost use Rattle.resolver_encoding.specs.Truth.{HasLawfulSolvables, AreCodes, AreListed, AreStated, IsTrueClause, Spares, follows};
 ghost use Rattle.resolver_encoding.specs.Values.{AreEncoded, extension, kinds_at};
 
@@ -61,7 +61,8 @@ pub fn finished_trails_are_answers<N, S>()
     ensures { (u : Universe N S) (codes : N → ℕ → S → Bool) (root : Demands) (kinds : List (ClauseKind N S)) (trail : List (Atom N S))
         (chosen seeds refused exempt : List S) →
         HasLawfulSolvables u → AreCodes u codes → All (IsTrueClause u codes root) kinds → Spares u exempt kinds →
-        IsTrail u kinds seeds refused trail → IsSettled u kinds (Takes trail) → IsChosen trail chosen → CoversReached u root kinds chosen seeds exempt →
+        IsTrail u kinds seeds refused trail → AreValuesSettled u kinds (Takes trail) → IsChosenBy trail chosen →
+            CoversReached u root kinds chosen seeds exempt →
         IsAnswerBy u root chosen seeds exempt }
 {}
 
@@ -74,7 +75,7 @@ pub fn read_trails_are_answers<N, S>()
         HasLawfulSolvables u → HasLawfulPackages u → AreCodes u codes → All (IsTrueClause u codes root) kinds → Spares u exempt kinds →
         IsRead u root kinds (Contains deferred) read asked registered exempt → AreSeeds u seeds chosen asked registered exempt →
         ((s : S) → Contains chosen s → Contains registered s → Contains read s) → NoneFires u (Contains deferred) chosen →
-        IsTrail u kinds seeds refused trail → IsSettled u kinds (Takes trail) → IsChosen trail chosen →
+        IsTrail u kinds seeds refused trail → AreValuesSettled u kinds (Takes trail) → IsChosenBy trail chosen →
         IsAnswerBy u root chosen seeds exempt }
 {}
 

@@ -2,7 +2,7 @@
 
 ghost use Rattle.std.specs.Prelude.{◌≡◌, [], ◌∷◌, IfErr, MatchBool, OnOk, false, map, true};
 ghost use Rattle.resolver_clause_store.specs.Laws.{IsIdentity};
-ghost use Rattle.resolver_clause_store.specs.Variables.{IsFull as AreFull, limit_in, origins_in};
+ghost use Rattle.resolver_clause_store.specs.Variables.{AreFull, limit_in, origins_in};
 ghost use Rattle.resolver_clause_store.specs.declared.Origin.TheVariants.{ConditionHelper, Solvable};
 ghost use Rattle.resolver_clause_store.specs.declared.By.TheVariants.{Solvable as BySolvable};
 ghost use Rattle.resolver_encoding.specs.Atoms.{atom, first_atom, front, helpers_of, origin_by};

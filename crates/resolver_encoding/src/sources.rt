@@ -18,21 +18,21 @@ pub(crate) struct Sources<S: Copy + Drop> {
 }
 
 impl<S: Copy + Drop> Sources<S> {
-    ghost use Rattle.resolver_encoding.specs.Groups.{IsNamed};
+    ghost use Rattle.resolver_encoding.specs.Groups.{IsInGroup};
     ghost use Rattle.resolver_encoding.specs.Sources.{HasGroups};
 
     /// Returns the solvables that imply the gate of a requirement.
     pub(crate) fn requirers(&self, requirement: Requirement) -> &[S]
-        ensures each { All (IsNamed self.now.gates requirement) result.now }
-        ensures every { HasGroups self.now → (s : S) → IsNamed self.now.gates requirement s → Contains result.now s }
+        ensures each { All (IsInGroup self.now.gates requirement) result.now }
+        ensures every { HasGroups self.now → (s : S) → IsInGroup self.now.gates requirement s → Contains result.now s }
     {
         self.gates.named(requirement)
     }
 
     /// Returns the solvables that imply the constraint helper of a version set.
     pub(crate) fn excluded(&self, version_set: VersionSetId) -> &[S]
-        ensures each { All (IsNamed self.now.helpers version_set) result.now }
-        ensures every { HasGroups self.now → (s : S) → IsNamed self.now.helpers version_set s → Contains result.now s }
+        ensures each { All (IsInGroup self.now.helpers version_set) result.now }
+        ensures every { HasGroups self.now → (s : S) → IsInGroup self.now.helpers version_set s → Contains result.now s }
     {
         self.helpers.named(version_set)
     }

@@ -3,7 +3,7 @@
 ghost use Rattle.std.specs.Prelude.{◌≡◌, ◌<◌, ◌≤◌, ◌^◌, ◌⊎◌, [], ◌∷◌, ◌++◌, ℕ, All, IfErr, List, OnErr, OnOk, length, map};
 ghost use Rattle.resolver_clause_store.specs.Laws.{IsIdentity};
 ghost use Rattle.resolver_clause_store.specs.Universe.{Universe};
-ghost use Rattle.resolver_clause_store.specs.Variables.{IsFull};
+ghost use Rattle.resolver_clause_store.specs.Variables.{AreFull};
 ghost use Rattle.resolver_encoding.specs.Atoms.{wanted};
 ghost use Rattle.resolver_encoding.specs.Encodings.{Grows, numbers_with};
 ghost use Rattle.resolver_encoding.specs.Refusals.{IsShortage};
@@ -97,7 +97,7 @@ impl<N: Copy + Eq + Hash + Drop, S: Copy + Eq + Hash + Drop> ClauseTable<N, S> {
         ensures added { OnOk result ((u : Universe N S) → choices.now.candidates.items ≡ wanted u kind →
             HasAdded u kind (table_in self.old) (table_in self.new)) }
         ensures clauses_unchanged { OnErr result (table_in self.new ≡ record (table_in self.old) { origins = (table_in self.new).origins }) }
-        ensures unchanged { IfErr result (λ e. (table_in self.new ≡ table_in self.old) ⊎ ((e ≡ Exhausted.Ids) × IsFull self.new.variables)) }
+        ensures unchanged { IfErr result (λ e. (table_in self.new ≡ table_in self.old) ⊎ ((e ≡ Exhausted.Ids) × AreFull self.new.variables)) }
         ensures variables { (table_in self.new).variable_limit ≡ (table_in self.old).variable_limit }
         ensures clauses { (table_in self.new).clause_limit ≡ (table_in self.old).clause_limit }
         ensures refusal { IfErr result (IsShortage (IsTableFull (table_in self.new))) }
@@ -131,7 +131,7 @@ impl<N: Copy + Eq + Hash + Drop, S: Copy + Eq + Hash + Drop> ClauseTable<N, S> {
         ensures unchanged { OnErr result (table_in self.new ≡ record (table_in self.old) { origins = (table_in self.new).origins }) }
         ensures variables { (table_in self.new).variable_limit ≡ (table_in self.old).variable_limit }
         ensures clauses { (table_in self.new).clause_limit ≡ (table_in self.old).clause_limit }
-        ensures refusal { IfErr result (IsShortage (IsFull self.new.variables)) }
+        ensures refusal { IfErr result (IsShortage (AreFull self.new.variables)) }
     {
         let mut literals = Vec::new(self.alloc);
         let ends = self.push_literals(&kind, choices, &mut literals)?;
@@ -154,7 +154,7 @@ impl<N: Copy + Eq + Hash + Drop, S: Copy + Eq + Hash + Drop> ClauseTable<N, S> {
         ensures table { table_in self.new ≡ record (table_in self.old) { origins = (table_in self.new).origins } }
         ensures clause { OnOk result ((u : Universe N S) → choices.now.candidates.items ≡ wanted u kind.now →
             IsClauseOf u (table_in self.new).origins literals.new.items kind.now) }
-        ensures refusal { IfErr result (IsShortage (IsFull self.new.variables)) }
+        ensures refusal { IfErr result (IsShortage (AreFull self.new.variables)) }
     {
         let second = second_of(kind);
         let helpers = depends_on(kind);

@@ -8,12 +8,14 @@ use Rattle.resolver_clause_store.specs.Laws.{IsIdentity}
 use Rattle.resolver_report.specs.declared.plain.Untried.{Untried}
 use Rattle.resolver_clause_store.specs.declared.Rule.{Rule}
 use Rattle.resolver_clause_store.specs.declared.Rule.TheVariants.{Requires, Constrains, Lock, Excluded, OnePerPackage}
-use Rattle.resolver_report.specs.Plain.{IsOpen, IsRefutedFrom, IsUnmet}
+use Rattle.resolver_report.specs.Plain.{IsOpenRequirement, IsRefutedFrom, IsUnmetRequirement}
 use Rattle.resolver_report.specs.declared.plain.Step.{Step}
 use Rattle.resolver_report.specs.declared.plain.Step.TheVariants.{GoesOn, Found, Refuted}
-use Rattle.resolver_report.specs.Searching.{AllUntried, IsChoice, IsChosen, IsRefutedWith, IsSearching, IsStep, all_candidates, candidates_in, choice_work}
-use Rattle.resolver_report.specs.Searching.{count_outside, search_work, untried_view, work_at, work_of_choice}
-use Rattle.resolver_report.proofs.SearchLemmas.{AllNeeded-nil, AllNeeded-push, HasNoRepeats-nil, HasNoRepeats-push, IsOpen-refuted, count_outside-falls}
+use Rattle.resolver_report.specs.Searching.{AllUntried, IsAfterChoice, IsNeededChoice, IsRefutedWith, IsSearchStep, IsSearching, all_candidates, candidates_in}
+use Rattle.resolver_report.specs.Searching.{choice_work}
+use Rattle.resolver_report.specs.Searching.{count_outside, remaining_work, search_work, untried_view, work_of_choice}
+use Rattle.resolver_report.proofs.SearchLemmas.{AllNeeded-nil, AllNeeded-push, HasNoRepeats-nil, HasNoRepeats-push, IsOpenRequirement-refuted}
+use Rattle.resolver_report.proofs.SearchLemmas.{count_outside-falls}
 
 -- a list is put on top of the others
 pub untried_pushed : {S : Type 0} (us : List (Untried S)) (u : Untried S) → untried_view (us ++ u ∷ []) ≡ u.candidates.now ∷ untried_view us
@@ -33,7 +35,7 @@ search_work-same equal rules set other n [] below same = refl
 search_work-same equal rules set other n (list ∷ lists) below same =
     let here = same (length lists) (omega (arith, below)) in
     let rest = search_work-same equal rules set other n lists (omega (arith, below)) same in
-    λ i. 1 + length list * work_at equal rules (here i) + rest i
+    λ i. 1 + length list * remaining_work equal rules (here i) + rest i
 
 -- the choices of a set before its last choice
 before_last : {S : Type 0} (set shorter : List S) → shorter ≡ take (length set - 1) set → (i : ℕ) → i ≤ length set - 1 → take i set ≡ take i shorter
@@ -57,7 +59,7 @@ candidates_fit (r ∷ rules) rule (suc k, below, is) =
     let rest : length (candidates_in rule) ≤ length (all_candidates rules) = candidates_fit rules rule (k, omega (arith, below), is) in
     rw (length-append (candidates_in r) (all_candidates rules)) (omega (arith, rest))
 
-unmet_fits : {N S : Type 0} (rules : List (Rule N S)) (rule : Rule N S) (set wanted : List S) → Contains rules rule → IsUnmet set wanted rule →
+unmet_fits : {N S : Type 0} (rules : List (Rule N S)) (rule : Rule N S) (set wanted : List S) → Contains rules rule → IsUnmetRequirement set wanted rule →
     length wanted ≤ length (all_candidates rules)
 unmet_fits {N} {S} rules (Requires by requirement candidates when) set wanted listed h =
     let Fits : List S → Type 0 = λ x. length x ≤ length (all_candidates rules) in
@@ -81,7 +83,7 @@ choice_work-le width (suc m) (suc n) below =
     omega (arith, more)
 
 module _ {N S : Type 0} (equal : S → S → Bool) (rules : List (Rule N S)) where
-  pub start : IsChosen rules [] []
+  pub start : IsAfterChoice rules [] []
   start = record {
     depth = refl;
     choices = tt;
@@ -91,7 +93,7 @@ module _ {N S : Type 0} (equal : S → S → Bool) (rules : List (Rule N S)) whe
   }
 
   -- no larger set obeys the rules, and the last choice is undone
-  pub enter_refuted : (set shorter : List S) (lists : List (List S)) → IsChosen rules set lists → IsRefutedFrom set rules →
+  pub enter_refuted : (set shorter : List S) (lists : List (List S)) → IsAfterChoice rules set lists → IsRefutedFrom set rules →
       shorter ≡ take (length set - 1) set →
       IsSearching rules shorter lists × (search_work equal rules shorter lists < work_of_choice equal rules set lists)
   enter_refuted set shorter lists h refuted is =
@@ -102,32 +104,32 @@ module _ {N S : Type 0} (equal : S → S → Bool) (rules : List (Rule N S)) whe
       let some = choice_work_some (length (all_candidates rules)) (suc (count_outside equal set (all_candidates rules))) in (
         record {
           depth = one_shorter set shorter is ∙ ap (λ k. k - 1) h.depth;
-          choices = AllUntried-same (IsChoice rules) set shorter n lists few same h.choices;
+          choices = AllUntried-same (IsNeededChoice rules) set shorter n lists few same h.choices;
           refuted = λ all. h.refuted refuted (AllUntried-same (IsRefutedWith rules) shorter set n lists few (λ i below. sym (same i below)) all);
         },
         omega (arith, equal_work, some),
       )
 
   -- the candidates of an open requirement are next
-  pub enter_open : (set wanted : List S) (lists : List (List S)) → IsChosen rules set lists → IsOpen set rules wanted →
+  pub enter_open : (set wanted : List S) (lists : List (List S)) → IsAfterChoice rules set lists → IsOpenRequirement set rules wanted →
       IsSearching rules set (wanted ∷ lists) × (search_work equal rules set (wanted ∷ lists) < work_of_choice equal rules set lists)
   enter_open set wanted lists h is_open =
       let whole : take (length lists) set ≡ set = take_all (length lists) set (omega (arith, h.depth)) in
-      let each : All (IsChoice rules set) wanted =
-      All-weaker (Contains wanted) (IsChoice rules set) (λ s inside.
+      let each : All (IsNeededChoice rules set) wanted =
+      All-weaker (Contains wanted) (IsNeededChoice rules set) (λ s inside.
       record { wanted = wanted; open_there = is_open; listed = inside; needed = h.needed; once = h.once }) wanted (All-contains_itself wanted) in
-      let Each : List S → Type 0 = λ x. All (IsChoice rules x) wanted in
+      let Each : List S → Type 0 = λ x. All (IsNeededChoice rules x) wanted in
       let Refuted : List S → Type 0 = λ x. All (IsRefutedWith rules x) wanted in
       let width = length (all_candidates rules) in
       let outside = count_outside equal set (all_candidates rules) in
       let fits : length wanted * choice_work width outside ≤ width * choice_work width outside =
       mul-le (length wanted) (choice_work width outside) width (choice_work width outside)
       (unmet_fits rules is_open.rule set wanted is_open.listed is_open.unmet) (omega arith) in
-      let here : work_at equal rules (take (length lists) set) ≡ choice_work width outside = ap (work_at equal rules) whole in (
+      let here : remaining_work equal rules (take (length lists) set) ≡ choice_work width outside = ap (remaining_work equal rules) whole in (
         record {
           depth = omega (arith, h.depth);
           choices = (subst Each (sym whole) each, h.choices);
-          refuted = λ all. h.refuted (IsOpen-refuted set wanted rules is_open (subst Refuted whole all.0)) all.1;
+          refuted = λ all. h.refuted (IsOpenRequirement-refuted set wanted rules is_open (subst Refuted whole all.0)) all.1;
         },
         rw here (omega (arith, fits)),
       )
@@ -143,7 +145,7 @@ module _ {N S : Type 0} (equal : S → S → Bool) (rules : List (Rule N S)) whe
       search_work-same equal rules set shorter n lists few same in (
         record {
           depth = omega (arith, one_shorter set shorter is, h.depth);
-          choices = AllUntried-same (IsChoice rules) set shorter n lists few same h.choices.1;
+          choices = AllUntried-same (IsNeededChoice rules) set shorter n lists few same h.choices.1;
           refuted = λ all. h.refuted (
             All-nil (IsRefutedWith rules (take (length lists) set)),
             AllUntried-same (IsRefutedWith rules) shorter set n lists few (λ i below. sym (same i below)) all,
@@ -154,7 +156,7 @@ module _ {N S : Type 0} (equal : S → S → Bool) (rules : List (Rule N S)) whe
 
   -- the next candidate is chosen
   pub advance_down : (set rest : List S) (s : S) (lists : List (List S)) → IsIdentity equal → IsSearching rules set ((s ∷ rest) ∷ lists) →
-      IsChosen rules (set ++ s ∷ []) (rest ∷ lists) ×
+      IsAfterChoice rules (set ++ s ∷ []) (rest ∷ lists) ×
       (work_of_choice equal rules (set ++ s ∷ []) (rest ∷ lists) ≤ search_work equal rules set ((s ∷ rest) ∷ lists))
   advance_down set rest s lists identity h =
       let n = length set in
@@ -163,9 +165,9 @@ module _ {N S : Type 0} (equal : S → S → Bool) (rules : List (Rule N S)) whe
       let same = before_push set s in
       let whole : take (length lists) set ≡ set = take_all (length lists) set (omega (arith, h.depth)) in
       let kept : take (length lists) set ≡ take (length lists) more = same (length lists) (omega (arith, h.depth)) in
-      let Choice : List S → Type 0 = λ x. IsChoice rules x s in
-      let choice : IsChoice rules set s = subst Choice whole (All-head (IsChoice rules (take (length lists) set)) s rest h.choices.0) in
-      let Each : List S → Type 0 = λ x. All (IsChoice rules x) rest in
+      let Choice : List S → Type 0 = λ x. IsNeededChoice rules x s in
+      let choice : IsNeededChoice rules set s = subst Choice whole (All-head (IsNeededChoice rules (take (length lists) set)) s rest h.choices.0) in
+      let Each : List S → Type 0 = λ x. All (IsNeededChoice rules x) rest in
       let Refuted : List S → Type 0 = λ x. All (IsRefutedWith rules x) rest in
       let RefutedHere : List S → Type 0 = λ x. IsRefutedWith rules x s in
       let width = length (all_candidates rules) in
@@ -173,14 +175,14 @@ module _ {N S : Type 0} (equal : S → S → Bool) (rules : List (Rule N S)) whe
       let left = count_outside equal more (all_candidates rules) in
       let falls : left < outside = count_outside-falls equal rules set choice.wanted s identity choice.open_there choice.listed in
       let less : choice_work width (suc left) ≤ choice_work width outside = choice_work-le width (suc left) outside (omega (arith, falls)) in
-      let here : work_at equal rules (take (length lists) set) ≡ choice_work width outside = ap (work_at equal rules) whole in
-      let there : work_at equal rules (take (length lists) more) ≡ choice_work width outside = ap (work_at equal rules) (sym kept ∙ whole) in
+      let here : remaining_work equal rules (take (length lists) set) ≡ choice_work width outside = ap (remaining_work equal rules) whole in
+      let there : remaining_work equal rules (take (length lists) more) ≡ choice_work width outside = ap (remaining_work equal rules) (sym kept ∙ whole) in
       let equal_work : search_work equal rules set lists ≡ search_work equal rules more lists = search_work-same equal rules set more n lists few same in (
         record {
           depth = omega (arith, length-append set (s ∷ []), h.depth);
           choices = (
-            subst Each kept (All-tail (IsChoice rules (take (length lists) set)) s rest h.choices.0),
-            AllUntried-same (IsChoice rules) set more n lists few same h.choices.1,
+            subst Each kept (All-tail (IsNeededChoice rules (take (length lists) set)) s rest h.choices.0),
+            AllUntried-same (IsNeededChoice rules) set more n lists few same h.choices.1,
           );
           refuted = λ refuted all. h.refuted (
             All-cons (IsRefutedWith rules (take (length lists) set)) s rest (subst RefutedHere (sym whole) refuted) (subst Refuted (sym kept) all.0),
@@ -194,7 +196,7 @@ module _ {N S : Type 0} (equal : S → S → Bool) (rules : List (Rule N S)) whe
 
   -- a step within a bound is one within a larger bound
   pub step_within : (set : List S) (lists : List (List S)) (bound larger : ℕ) (step : Step) {middle : ℕ} → bound ≡ middle → middle ≤ larger →
-      IsStep equal rules set lists bound step → IsStep equal rules set lists larger step
+      IsSearchStep equal rules set lists bound step → IsSearchStep equal rules set lists larger step
   step_within set lists bound larger GoesOn same below (searching, less) = (searching, omega (arith, same, below, less))
   step_within set lists bound larger Found same below h = h
   step_within set lists bound larger Refuted same below h = h

@@ -15,7 +15,7 @@ use Rattle.resolver_report.specs.Merging.{Key, are_alike_if_there, class_in, fir
 use Rattle.resolver_report.specs.Same.{same_node}
 use Rattle.resolver_report.specs.Shapes.{Shape, as_solvable, solvable_at}
 use Rattle.resolver_report.specs.Simplified.{Group, IsGroupOf}
-use Rattle.resolver_report.specs.Outlines.{known_group, group_at}
+use Rattle.resolver_report.specs.Outlines.{known_group, group_of_node}
 use Rattle.std.proofs.lemmas.List.Sums.{position_or_len_is}
 use Rattle.resolver_report.proofs.AlikeLemmas.{first_passes}
 use Rattle.resolver_clause_store.proofs.ListLemmas.{slice_get-inside as below}
@@ -154,8 +154,8 @@ module _ {N S : Type 0} (u : Universe N S) (g : Shape S) where
 
   -- the groups of all nodes
   pub made_groups : (made : List (Option ℕ)) (count : ℕ) → made ≡ map (group_in (keys u g)) (range_with_len 0 count) → length g.nodes ≤ count → (n : ℕ) →
-      group_at made n ≡ group_in (keys u g) n
-  made_groups made count are long n = ap (λ xs. group_at xs n) are ∙ at_made (made_at (group_in (keys u g)) 0 count n)
+      group_of_node made n ≡ group_in (keys u g) n
+  made_groups made count are long n = ap (λ xs. group_of_node xs n) are ∙ at_made (made_at (group_in (keys u g)) 0 count n)
     where
       none_beyond : slice_get (map (group_in (keys u g)) (range_with_len 0 count)) n ≡ None → solvable_at g n ≡ None
       none_beyond e = beyond g.nodes n (at_length (cases_lt n (length g.nodes)))

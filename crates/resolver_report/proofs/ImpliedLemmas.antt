@@ -11,7 +11,7 @@ use Rattle.std.proofs.lemmas.List.Elements.{All-nil, All-cons, All-head, All-tai
 use Rattle.resolver_report.specs.declared.implications.Implication.{Implication}
 use Rattle.resolver_report.specs.declared.graph.NodeId.{NodeId}
 use Rattle.resolver_report.specs.Causes.{has_conflict, has_exclusion}
-use Rattle.resolver_report.specs.Implications.{HasLeastMarks, Implied, each_marked, follows, implied, implies}
+use Rattle.resolver_report.specs.Implications.{HasLeastMarks, Implied, each_marked, implied, implies, is_implied}
 use Rattle.resolver_report.specs.Marks.{IsClosed, IsLeastClosed, all_marked, can_be_installed, installable, is_marked, is_place, marked, marked_in, missing}
 use Rattle.resolver_report.specs.Marks.{must_be_missing, some_marked}
 use Rattle.resolver_report.specs.NodeImplications.{all_of_run, each_alone, installable_by, missing_by, of_each_node}
@@ -39,19 +39,19 @@ module _ (by : ℕ → List Implied) (own : (n : ℕ) → AreOf n (by n)) where
       (nodes_within (a + 1) many count (omega (arith, le)))
 
   module _ (marks : List Bool) (n : ℕ) where
-    of_other : (m : ℕ) (is : List Implied) → AreOf m is → m ≢ n → follows is marks n ≡ false
+    of_other : (m : ℕ) (is : List Implied) → AreOf m is → m ≢ n → is_implied is marks n ≡ false
     of_other m [] are apart = refl
     of_other m (i ∷ is) are apart = at_test (i.node == n) refl (of_other m is (All-tail (λ (j : Implied). j.node ≡ m) i is are) apart)
       where
-        at_test : (b : Bool) → (i.node == n) ≡ b → follows is marks n ≡ false → follows (i ∷ is) marks n ≡ false
+        at_test : (b : Bool) → (i.node == n) ≡ b → is_implied is marks n ≡ false → is_implied (i ∷ is) marks n ≡ false
         at_test true e rest = absurd (apart (sym (All-head (λ (j : Implied). j.node ≡ m) i is are) ∙ same_numbers i.node n e))
         at_test false e rest = rw e rest
 
-    or_any : (is js : List Implied) → follows (is ++ js) marks n ≡ (follows is marks n || follows js marks n)
+    or_any : (is js : List Implied) → is_implied (is ++ js) marks n ≡ (is_implied is marks n || is_implied js marks n)
     or_any [] js = refl
     or_any (i ∷ is) js = ap (λ b. implies marks n i || b) (or_any is js) ∙ at_test (implies marks n i)
       where
-        at_test : (b : Bool) → (b || (follows is marks n || follows js marks n)) ≡ ((b || follows is marks n) || follows js marks n)
+        at_test : (b : Bool) → (b || (is_implied is marks n || is_implied js marks n)) ≡ ((b || is_implied is marks n) || is_implied js marks n)
         at_test true = refl
         at_test false = refl
 
@@ -59,24 +59,25 @@ module _ (by : ℕ → List Implied) (own : (n : ℕ) → AreOf n (by n)) where
     or_none true = refl
     or_none false = refl
 
-    of_later : (a many : ℕ) → n < a → follows (flat_map by (range_with_len a many)) marks n ≡ false
+    of_later : (a many : ℕ) → n < a → is_implied (flat_map by (range_with_len a many)) marks n ≡ false
     of_later a zero lt = refl
     of_later a (suc many) lt = or_any (by a) (flat_map by (range_with_len (a + 1) many)) ∙
         (λ i. of_other a (by a) (own a) (omega (arith, lt)) i || of_later (a + 1) many (omega (arith, lt)) i)
 
-    of_node : (a many : ℕ) → a ≤ n → n < a + many → follows (flat_map by (range_with_len a many)) marks n ≡ follows (by n) marks n
+    of_node : (a many : ℕ) → a ≤ n → n < a + many → is_implied (flat_map by (range_with_len a many)) marks n ≡ is_implied (by n) marks n
     of_node a zero le lt = absurd (omega (arith, le, lt))
     of_node a (suc many) le lt = or_any (by a) (flat_map by (range_with_len (a + 1) many)) ∙
         at_place (cases_eq a n) (λ apart. of_node (a + 1) many (omega (arith, le, apart)) (omega (arith, lt)))
       where
-        at_place : (a ≡ n) ⊎ (a ≢ n) → (a ≢ n → follows (flat_map by (range_with_len (a + 1) many)) marks n ≡ follows (by n) marks n) →
-            (follows (by a) marks n || follows (flat_map by (range_with_len (a + 1) many)) marks n) ≡ follows (by n) marks n
-        at_place (inl same) rest = (λ i. follows (by (same i)) marks n || of_later (a + 1) many (omega (arith, same)) i) ∙ or_none (follows (by n) marks n)
+        at_place : (a ≡ n) ⊎ (a ≢ n) → (a ≢ n → is_implied (flat_map by (range_with_len (a + 1) many)) marks n ≡ is_implied (by n) marks n) →
+            (is_implied (by a) marks n || is_implied (flat_map by (range_with_len (a + 1) many)) marks n) ≡ is_implied (by n) marks n
+        at_place (inl same) rest = (λ i. is_implied (by (same i)) marks n || of_later (a + 1) many (omega (arith, same)) i) ∙
+            or_none (is_implied (by n) marks n)
         at_place (inr apart) rest = (λ i. of_other a (by a) (own a) apart i || rest apart i)
 
   -- the least marks for the implications of the nodes are the least marks for an equivalent rule
   pub least_by : {S : Type 0} (g : ConflictShape S) (rule : List Bool → ℕ → Bool) (marks : List Bool) →
-      ((ms : List Bool) (n : ℕ) → follows (by n) ms n ≡ rule ms n) → IsMonotone rule → HasLeastMarks (length g.shape.nodes) (of_each_node g by) marks →
+      ((ms : List Bool) (n : ℕ) → is_implied (by n) ms n ≡ rule ms n) → IsMonotone rule → HasLeastMarks (length g.shape.nodes) (of_each_node g by) marks →
       marks ≡ marked g.shape rule
   least_by g rule marks told monotone h =
       same_marks marks (marked g.shape rule) (h.long ∙ sym (marked_long (length g.shape.nodes) refl))
@@ -85,10 +86,10 @@ module _ (by : ℕ → List Implied) (own : (n : ℕ) → AreOf n (by n)) where
       by_rounds : IsLeastClosed (length g.shape.nodes) rule (marked g.shape rule)
       by_rounds = marked_least g.shape rule monotone
 
-      same : (ms : List Bool) (n : ℕ) → n < length g.shape.nodes → follows (of_each_node g by) ms n ≡ rule ms n
+      same : (ms : List Bool) (n : ℕ) → n < length g.shape.nodes → is_implied (of_each_node g by) ms n ≡ rule ms n
       same ms n lt = of_node ms n 0 (length g.shape.nodes) (omega arith) (omega (arith, lt)) ∙ told ms n
 
-      from_rule : (ms : List Bool) → IsClosed (length g.shape.nodes) rule ms → IsClosed (length g.shape.nodes) (follows (of_each_node g by)) ms
+      from_rule : (ms : List Bool) → IsClosed (length g.shape.nodes) rule ms → IsClosed (length g.shape.nodes) (is_implied (of_each_node g by)) ms
       from_rule ms closed n lt e = closed n lt (sym (same ms n lt) ∙ e)
 
       to_rule : IsClosed (length g.shape.nodes) rule marks
@@ -144,7 +145,7 @@ module _ {S : Type 0} (g : ConflictShape S) where
       at_tests false false = of_runs (runs_of (outgoing g.shape.edges n))
 
   module _ (marks : List Bool) (n : ℕ) where
-    alone : (groups : List (List NodeId)) → follows (record { groups = groups; node = n } ∷ []) marks n ≡ each_marked marks groups
+    alone : (groups : List (List NodeId)) → is_implied (record { groups = groups; node = n } ∷ []) marks n ≡ each_marked marks groups
     alone groups = rw (itself_number n) (at_test (each_marked marks groups))
       where
         at_test : (b : Bool) → (b || false) ≡ b
@@ -155,7 +156,7 @@ module _ {S : Type 0} (g : ConflictShape S) where
     of_targets [] = refl
     of_targets (run ∷ runs) = ap (λ b. some_marked marks run.targets && b) (of_targets runs)
 
-    pub installable_told : follows (installable_by g n) marks n ≡ can_be_installed g marks n
+    pub installable_told : is_implied (installable_by g n) marks n ≡ can_be_installed g marks n
     installable_told = at_tests (is_place g.unresolved n) (has_exclusion (incoming g.shape.edges n)) (has_conflict (outgoing g.shape.edges n))
       where
         runs : List Run
@@ -164,7 +165,7 @@ module _ {S : Type 0} (g : ConflictShape S) where
         i : Implied
         i = record { groups = map (λ run. run.targets) (runs_of (outgoing g.shape.edges n)); node = n }
 
-        at_tests : (p x c : Bool) → follows (cond p [] (cond x [] (cond c [] (i ∷ [])))) marks n ≡
+        at_tests : (p x c : Bool) → is_implied (cond p [] (cond x [] (cond c [] (i ∷ [])))) marks n ≡
             (not p && not x && not c && list_all (λ run. some_marked marks run.targets) (runs_of (outgoing g.shape.edges n)))
         at_tests true x c = refl
         at_tests false true c = refl
@@ -179,14 +180,14 @@ module _ {S : Type 0} (g : ConflictShape S) where
         at_test true = refl
         at_test false = refl
 
-    of_runs : (runs : List Run) → follows (map (all_of_run n) runs) marks n ≡ list_any (λ run. all_marked marks run.targets) runs
+    of_runs : (runs : List Run) → is_implied (map (all_of_run n) runs) marks n ≡ list_any (λ run. all_marked marks run.targets) runs
     of_runs [] = refl
     of_runs (run ∷ runs) = (λ i. (itself_number n i && of_alone run.targets i) || of_runs runs i)
 
-    pub missing_told : follows (missing_by g n) marks n ≡ must_be_missing g marks n
+    pub missing_told : is_implied (missing_by g n) marks n ≡ must_be_missing g marks n
     missing_told = at_tests (is_place g.unresolved n) (has_conflict (outgoing g.shape.edges n))
       where
-        at_tests : (p c : Bool) → follows
+        at_tests : (p c : Bool) → is_implied
             (cond p (record { groups = []; node = n } ∷ []) (cond c [] (map (all_of_run n) (runs_of (outgoing g.shape.edges n))))) marks n ≡
             (p || (not c && list_any (λ run. all_marked marks run.targets) (runs_of (outgoing g.shape.edges n))))
         at_tests true c = alone []

@@ -14,7 +14,7 @@ use Rattle.resolver_report.specs.declared.graph.NodeId.{NodeId}
 use Rattle.resolver_report.specs.declared.outline.NodeOutline.{NodeOutline}
 use Rattle.resolver_report.specs.Messages.{RunTold, same_group_as}
 use Rattle.resolver_report.specs.Shapes.{Shape, as_solvable, places, solvable_at}
-use Rattle.resolver_report.specs.Outlines.{NodeTold, group_at, node_view}
+use Rattle.resolver_report.specs.Outlines.{NodeTold, group_of_node, node_view}
 
 -- An element at the end is left out if an equal one stands before it.
 module _ {X : Type 0} (same : X → X → Bool) (passes : (z y x : X) → same z y ≡ true → same y x ≡ true → same z x ≡ true) where
@@ -71,21 +71,21 @@ groups_pass (Some a) None c e f = absurd (false≢true e)
 groups_pass (Some a) (Some b) None e f = absurd (false≢true f)
 
 pub first_of_groups_next : (groups : List (Option ℕ)) (xs : List NodeId) (i : ℕ) (y : NodeId) (made : List NodeId) → i < length xs → y ≡ get_or xs i y
-    → made ≡ without_repeats (λ m n. same_group_as (group_at groups m.0) (group_at groups n.0)) (take i xs)
-    → cond (list_any (λ m. same_group_as (group_at groups y.0) (group_at groups m.0)) made) made (made ++ y ∷ []) ≡ without_repeats (λ m n.
-    same_group_as (group_at groups m.0) (group_at groups n.0)) (take (i + 1) xs)
+    → made ≡ without_repeats (λ m n. same_group_as (group_of_node groups m.0) (group_of_node groups n.0)) (take i xs)
+    → cond (list_any (λ m. same_group_as (group_of_node groups y.0) (group_of_node groups m.0)) made) made (made ++ y ∷ []) ≡ without_repeats (λ m n.
+    same_group_as (group_of_node groups m.0) (group_of_node groups n.0)) (take (i + 1) xs)
 first_of_groups_next groups xs i y made h is are =
-    without_repeats_next (λ m n. same_group_as (group_at groups m.0) (group_at groups n.0)) (λ z y' x e f.
-    groups_pass (group_at groups z.0) (group_at groups y'.0) (group_at groups x.0) e f) xs i y made h is are
+    without_repeats_next (λ m n. same_group_as (group_of_node groups m.0) (group_of_node groups n.0)) (λ z y' x e f.
+    groups_pass (group_of_node groups z.0) (group_of_node groups y'.0) (group_of_node groups x.0) e f) xs i y made h is are
 
 -- a node without a group shares no group
-no_group : (groups : List (Option ℕ)) (found : List NodeId) → list_any (λ m. same_group_as None (group_at groups m.0)) found ≡ false
+no_group : (groups : List (Option ℕ)) (found : List NodeId) → list_any (λ m. same_group_as None (group_of_node groups m.0)) found ≡ false
 no_group groups [] = refl
 no_group groups (n ∷ ns) = no_group groups ns
 
-pub add_alone : (groups : List (Option ℕ)) (found : List NodeId) (n : NodeId) → group_at groups n.0 ≡ None →
-    cond (list_any (λ m. same_group_as (group_at groups n.0) (group_at groups m.0)) found) found (found ++ n ∷ []) ≡ found ++ n ∷ []
-add_alone groups found n e = ap (λ o. cond (list_any (λ m. same_group_as o (group_at groups m.0)) found) found (found ++ n ∷ [])) e ∙
+pub add_alone : (groups : List (Option ℕ)) (found : List NodeId) (n : NodeId) → group_of_node groups n.0 ≡ None →
+    cond (list_any (λ m. same_group_as (group_of_node groups n.0) (group_of_node groups m.0)) found) found (found ++ n ∷ []) ≡ found ++ n ∷ []
+add_alone groups found n e = ap (λ o. cond (list_any (λ m. same_group_as o (group_of_node groups m.0)) found) found (found ++ n ∷ [])) e ∙
     ap (λ b. cond b found (found ++ n ∷ [])) (no_group groups found)
 
 -- the outline has an entry for each node

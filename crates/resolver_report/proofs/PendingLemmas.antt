@@ -13,7 +13,7 @@ use Rattle.resolver_report.specs.Forests.{text_of, indent_from}
 use Rattle.resolver_report.specs.Marks.{is_marked}
 use Rattle.resolver_report.specs.Messages.{RunTold, requirement_text, run_text, side_by_side, tell_verdict, with_group}
 use Rattle.resolver_report.specs.PendingTexts.{FrameTold, IsTellStep, PendingTold, below_run, candidate_work, frame_view, frames_text, frames_view, is_none}
-use Rattle.resolver_report.specs.PendingTexts.{left_to, left_told, levels_of, nodes_work, pending_text, pending_work, runs_at, runs_work}
+use Rattle.resolver_report.specs.PendingTexts.{left_to, left_told, levels_of, nodes_work, pending_text, runs_at, runs_work, telling_work}
 use Rattle.resolver_report.specs.Tellings.{IsToldNode, candidate_in, graph_in, keys_in, marks_in, meaning, run_in, text_at, tree_in, version_text_in}
 use Rattle.resolver_report.specs.Outlines.{run_told_view}
 use Rattle.resolver_report.specs.Verdicts.{verdict_view}
@@ -119,8 +119,8 @@ module _ {I N S : Type 0} (universe : I → Universe N S) (outline : Outline I N
         IsTellStep universe outline (at cs all reported) (at (below_run r) rs reported) out out'
     run_step cs all r rs reported out out' none some wrote =
         let work = candidate_work universe outline (limit - length fs) in
-        let before : pending_work universe outline (at cs all reported) ≡ pending_work universe outline (at [] (r ∷ rs) reported) =
-        λ i. pending_work universe outline (at (none i) (some i) reported) in
+        let before : telling_work universe outline (at cs all reported) ≡ telling_work universe outline (at [] (r ∷ rs) reported) =
+        λ i. telling_work universe outline (at (none i) (some i) reported) in
         record {
           text = run_text_step r rs reported out out' wrote ∙ (λ i. out ++ pending_text universe outline (at ((sym none) i) ((sym some) i) reported));
           work = omega (arith, before, below_work work r.requirement r.unresolved r.viable r.candidates);
@@ -159,8 +159,8 @@ module _ {I N S : Type 0} (universe : I → Universe N S) (outline : Outline I N
         out' ≡ out ++ w →
         IsTellStep universe outline (at all rs reported) (at cs rs reported') out out'
     candidate_step all n cs rs reported reported' w out out' some text grew wrote =
-        let before : pending_work universe outline (at all rs reported) ≡ pending_work universe outline (at (n ∷ cs) rs reported) =
-        λ i. pending_work universe outline (at (some i) rs reported) in
+        let before : telling_work universe outline (at all rs reported) ≡ telling_work universe outline (at (n ∷ cs) rs reported) =
+        λ i. telling_work universe outline (at (some i) rs reported) in
         record {
           text = spoke n cs rs reported reported' w out out' text grew wrote ∙ (λ i. out ++ pending_text universe outline (at ((sym some) i) rs reported));
           work = omega (arith, before, work_some (limit - length fs) n.0);
@@ -205,8 +205,8 @@ module _ {I N S : Type 0} (universe : I → Universe N S) (outline : Outline I N
           reported = reported';
           branch = slice_set branch n.0 true;
         } in
-        let before : pending_work universe outline (at all rs reported) ≡ pending_work universe outline (at (n ∷ cs) rs reported) =
-        λ i. pending_work universe outline (at (some i) rs reported) in
+        let before : telling_work universe outline (at all rs reported) ≡ telling_work universe outline (at (n ∷ cs) rs reported) =
+        λ i. telling_work universe outline (at (some i) rs reported) in
         let next : limit - length fs ≡ suc depth = omega (arith, deep) in
         let work : candidate_work universe outline (limit - length fs) n.0 ≡ 2 + runs_work (candidate_work universe outline depth) runs =
         ap (λ d. candidate_work universe outline d n.0) next ∙ ap (λ r. 2 + runs_work (candidate_work universe outline depth) r) (sym are) in
@@ -239,8 +239,8 @@ module _ {I N S : Type 0} (universe : I → Universe N S) (outline : Outline I N
         record { top_indent = top_indent; limit = limit; frames = all; candidates = cs; runs = rs; reported = reported; branch = b } in p in
         let after = λ (b : List Bool). let p : PendingTold =
         record { top_indent = top_indent; limit = limit; frames = fs; candidates = f.candidates; runs = f.runs; reported = reported; branch = b } in p in
-        let before : pending_work universe outline (old cs rs all) ≡ pending_work universe outline (old [] [] (f ∷ fs)) =
-        λ i. pending_work universe outline (old (none i) (done i) (are i)) in
+        let before : telling_work universe outline (old cs rs all) ≡ telling_work universe outline (old [] [] (f ∷ fs)) =
+        λ i. telling_work universe outline (old (none i) (done i) (are i)) in
         record {
           text = (λ i. out ++ pending_text universe outline (after (back i))) ∙
               (λ i. out ++ pending_text universe outline (old ((sym none) i) ((sym done) i) ((sym are) i)));

@@ -1,25 +1,26 @@
 -- Rules about anything that is not reached can be left out.
 use Rattle.std.proofs.Common.{zero, suc, ◌⊎◌, List, [], ◌∷◌, sym, subst, inl, inr, arith, Contains, All, Vec, Global}
 use Rattle.std.proofs.lemmas.List.Elements.{All-cons, All-head, All-tail, All-weaker, All-contains, Contains-append_right}
-use Rattle.resolver_clause_store.specs.Lists.{IsCut, cut_none, cut_left, cut_right, IsWithin, Meets}
+use Rattle.resolver_clause_store.specs.Lists.{IsInterleaving, interleave_none, interleave_left, interleave_right, IsWithin, Meets}
 use Rattle.resolver_clause_store.specs.declared.By.{By}
 use Rattle.resolver_clause_store.specs.declared.By.TheVariants.{Root, Solvable}
 use Rattle.resolver_clause_store.specs.declared.Requirement.{Requirement}
 use Rattle.resolver_clause_store.specs.declared.Rule.{Rule}
 use Rattle.resolver_clause_store.specs.declared.Rule.TheVariants.{Requires, Constrains, Lock, Excluded, OnePerPackage}
 use Rattle.resolver_report.specs.ReachedRules.{IsReachedBy, by_root, by_reached, IsRequirerReached, IsKept, LeavesKept}
-use Rattle.resolver_clause_store.specs.Statements.{lists_of, statement_of, IsPresent, ObeysAlone}
+use Rattle.resolver_clause_store.specs.Statements.{statement_of, IsPresent, ObeysAlone}
 use Rattle.resolver_clause_store.specs.Rules.{IsRefuted, Obeys}
+use Rattle.resolver_clause_store.specs.NumberedLists.{items_of}
 use Rattle.resolver_report.proofs.SearchLemmas.{AllMeet-within}
 
 -- each element of a list that was cut is in one of the parts
-in_part : {X : Type 0} {xs ys zs : List X} → IsCut xs ys zs → (x : X) → Contains xs x → Contains ys x ⊎ Contains zs x
-in_part cut_none x h = inl h
-in_part (cut_left {x = y} {ys = ys} rest) x (zero, below, is) = inl (zero, omega arith, is)
-in_part (cut_left {x = y} {ys = ys} rest) x (suc k, below, is) =
+in_part : {X : Type 0} {xs ys zs : List X} → IsInterleaving xs ys zs → (x : X) → Contains xs x → Contains ys x ⊎ Contains zs x
+in_part interleave_none x h = inl h
+in_part (interleave_left {x = y} {ys = ys} rest) x (zero, below, is) = inl (zero, omega arith, is)
+in_part (interleave_left {x = y} {ys = ys} rest) x (suc k, below, is) =
     elim (in_part rest x (k, omega (arith, below), is)) [ inl h ↦ inl (Contains-append_right (y ∷ []) ys x h) | inr h ↦ inr h ]
-in_part (cut_right {x = y} {zs = zs} rest) x (zero, below, is) = inr (zero, omega arith, is)
-in_part (cut_right {x = y} {zs = zs} rest) x (suc k, below, is) =
+in_part (interleave_right {x = y} {zs = zs} rest) x (zero, below, is) = inr (zero, omega arith, is)
+in_part (interleave_right {x = y} {zs = zs} rest) x (suc k, below, is) =
     elim (in_part rest x (k, omega (arith, below), is)) [ inl h ↦ inl h | inr h ↦ inr (Contains-append_right (y ∷ []) zs x h) ]
 
 -- a kept rule of the list stays in it
@@ -89,7 +90,7 @@ module _ {N S : Type 0} (rules kept : List (Rule N S)) (left : LeavesKept rules 
       let met : Meets candidates.items set =
       obeys.each (Requires by requirement candidates when)
       (Contains-kept rules kept left (Requires by requirement candidates when) listed (requirer_reached by here)) (requirer_present by here)
-      (AllMeet-within (lists_of when.items) part set is.within meet) in
+      (AllMeet-within (items_of when.items) part set is.within meet) in
       record {
         shared = met.shared;
         in_first = met.in_first;
@@ -120,10 +121,10 @@ pub IsRefuted-kept : {N S : Type 0} (rules kept : List (Rule N S)) → LeavesKep
 IsRefuted-kept rules kept left refuted set obeys = reached_part rules set (λ part is. refuted part (Obeys-part rules kept left set part obeys is))
 
 -- a property of each rule is one of each kept rule
-pub All-left : {X : Type 0} {xs ys zs : List X} (P : X → Type 0) → IsCut xs ys zs → All P xs → All P ys
-All-left P cut_none all = all
-All-left P (cut_left {x = x} {xs = xs} {ys = ys} rest) all = All-cons P x ys (All-head P x xs all) (All-left P rest (All-tail P x xs all))
-All-left P (cut_right {x = x} {xs = xs} rest) all = All-left P rest (All-tail P x xs all)
+pub All-left : {X : Type 0} {xs ys zs : List X} (P : X → Type 0) → IsInterleaving xs ys zs → All P xs → All P ys
+All-left P interleave_none all = all
+All-left P (interleave_left {x = x} {xs = xs} {ys = ys} rest) all = All-cons P x ys (All-head P x xs all) (All-left P rest (All-tail P x xs all))
+All-left P (interleave_right {x = x} {xs = xs} rest) all = All-left P rest (All-tail P x xs all)
 
 -- the kept rules reach what all rules reach
 IsReachedBy-kept : {N S : Type 0} (rules kept : List (Rule N S)) → LeavesKept rules kept → (s : S) → IsReachedBy rules s → IsReachedBy kept s

@@ -11,7 +11,7 @@ use Rattle.std.proofs.lemmas.Option.{get_or_from_slice_get, slice_get-get_or, sl
 use Rattle.indexmap.proofs.CallerLemmas.{Contains-insert_key}
 use Rattle.indexmap.specs.IndexSet.{insert_all, insert_key}
 use Rattle.resolver_clause_store.specs.Laws.{IsIdentity}
-use Rattle.resolver_clause_store.specs.Lists.{cut_none, cut_left, cut_right, IsWithin}
+use Rattle.resolver_clause_store.specs.Lists.{interleave_none, interleave_left, interleave_right, IsWithin}
 use Rattle.resolver_clause_store.specs.declared.By.{By}
 use Rattle.resolver_clause_store.specs.declared.Requirement.{Requirement}
 use Rattle.resolver_clause_store.specs.declared.By.TheVariants.{Root, Solvable}
@@ -223,19 +223,19 @@ module _ {X F : Type 0} (R : F → X → Bool → F → Type 0) (P : X → Type 
       LeavesJust P (x ∷ xs) (items_where_true (b ∷ bs) (x ∷ xs))
   one_more x xs bs true holds rest = record {
     dropped = rest.dropped;
-    cut = cut_left rest.cut;
+    cut = interleave_left rest.cut;
     all_left = All-cons P x (items_where_true bs xs) holds rest.all_left;
     none_dropped = rest.none_dropped;
   }
   one_more x xs bs false fails rest = record {
     dropped = x ∷ rest.dropped;
-    cut = cut_right rest.cut;
+    cut = interleave_right rest.cut;
     all_left = rest.all_left;
     none_dropped = All-cons (λ y. P y → ⊥) x rest.dropped fails rest.none_dropped;
   }
 
   told_just : (bs : List Bool) (xs : List X) (q : F) → length bs ≡ length xs → ReturnsInTurn R f bs xs q → LeavesJust P xs (items_where_true bs xs)
-  told_just [] [] q e t = record { dropped = []; cut = cut_none; all_left = All-nil P; none_dropped = All-nil (λ y. P y → ⊥) }
+  told_just [] [] q e t = record { dropped = []; cut = interleave_none; all_left = All-nil P; none_dropped = All-nil (λ y. P y → ⊥) }
   told_just [] (x ∷ xs) q e t = absurd (omega arith)
   told_just (b ∷ bs) [] q e t = absurd t
   told_just (b ∷ bs) (x ∷ xs) q e t =

@@ -8,20 +8,20 @@ use Rattle.resolver_report.specs.declared.graph.ConflictEdge.TheVariants.{Requir
 use Rattle.resolver_report.specs.declared.graph.Edge.{Edge}
 use Rattle.resolver_report.specs.declared.runs.EdgeRun.{EdgeRun}
 use Rattle.resolver_clause_store.specs.SameRequirements.{same_requirement}
-use Rattle.resolver_report.specs.Runs.{Run, joined, with_edge, runs_of}
+use Rattle.resolver_report.specs.Runs.{Run, with_target, with_edge, runs_of}
 use Rattle.resolver_report.specs.EdgeRuns.{run_view, and_then, new_run}
 use Rattle.resolver_clause_store.proofs.SameRequirementLemmas.{same_requirement-true}
 
 -- an edge is put in front and another at the end
 joined_and_then : (q : Requirement) (m : NodeId) (r : Requirement) (n : NodeId) (runs : List Run) →
-    joined q m (and_then r n runs) ≡ and_then r n (joined q m runs)
+    with_target q m (and_then r n runs) ≡ and_then r n (with_target q m runs)
 joined_and_then q m r n [] = elim (same_requirement q r) as (λ b.
     cond b (new_run q (m ∷ n ∷ []) ∷ []) (new_run q (m ∷ []) ∷ new_run r (n ∷ []) ∷ []) ≡ cond b (new_run q (m ∷ n ∷ []) ∷ [])
     (new_run q (m ∷ []) ∷ new_run r (n ∷ []) ∷ [])) [ true ↦ refl | false ↦ refl ]
 joined_and_then q m r n (run ∷ []) = one (same_requirement q run.requirement) (same_requirement run.requirement r) refl refl
   where
     one : (a b : Bool) → same_requirement q run.requirement ≡ a → same_requirement run.requirement r ≡ b →
-        joined q m (cond b (new_run run.requirement (run.targets ++ n ∷ []) ∷ []) (run ∷ new_run r (n ∷ []) ∷ [])) ≡ and_then r n
+        with_target q m (cond b (new_run run.requirement (run.targets ++ n ∷ []) ∷ []) (run ∷ new_run r (n ∷ []) ∷ [])) ≡ and_then r n
         (cond a (new_run q (m ∷ run.targets) ∷ []) (new_run q (m ∷ []) ∷ run ∷ []))
     one true true e f = let same : same_requirement q r ≡ true = rw (same_requirement-true q run.requirement e) f in rw (e, same) refl
     one true false e f = let same : same_requirement q r ≡ false = rw (same_requirement-true q run.requirement e) f in rw (e, same) refl

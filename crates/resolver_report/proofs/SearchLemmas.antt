@@ -12,13 +12,15 @@ use Rattle.resolver_clause_store.specs.Lists.{HasNoRepeats, Meets, IsWithin}
 use Rattle.resolver_clause_store.specs.declared.By.TheVariants.{Root, Solvable}
 use Rattle.resolver_clause_store.specs.declared.Rule.{Rule}
 use Rattle.resolver_clause_store.specs.declared.Rule.TheVariants.{Requires, Constrains, Lock, Excluded, OnePerPackage}
-use Rattle.resolver_clause_store.specs.Statements.{lists_of, statement_of, AllMeet, ObeysAlone}
+use Rattle.resolver_clause_store.specs.Statements.{statement_of, AllMeet, ObeysAlone}
 use Rattle.resolver_clause_store.specs.Rules.{AllNeeded, IsNeeded, by_root, by_needed, Obeys}
 use Rattle.resolver_report.specs.Searching.{all_candidates, candidates_in, count_outside}
-use Rattle.resolver_report.specs.Plain.{BreaksSome, Clashes, HasTwo, IsAllowed, IsOnlyInstance, IsForbidden, IsMet, IsOpen, IsRefutedFrom, IsUnmet}
+use Rattle.resolver_report.specs.Plain.{BreaksSome, Clashes, HasTwo, IsAllowed, IsOnlyInstance, IsBroken, MeetsRule, IsOpenRequirement, IsRefutedFrom}
+use Rattle.resolver_report.specs.Plain.{IsUnmetRequirement}
 use Rattle.resolver_clause_store.proofs.ListLemmas.{Contains-map}
 use Rattle.resolver_report.specs.Plain.{HasNoOtherInstance, HasOtherInstance}
 use Rattle.resolver_clause_store.proofs.DemandLemmas.{IsPresent-within}
+use Rattle.resolver_clause_store.specs.NumberedLists.{items_of}
 use Rattle.std.proofs.lemmas.Bool.{false_from_ne_true}
 
 -- a larger set has the members of the set
@@ -32,12 +34,12 @@ AllMeet-within lists set larger within all =
 
 -- a list without a member in the set
 pub AllMeet-none : {S : Type 0} (lists : List (Vec S Global)) (set : List S) (list : Vec S Global) → Contains lists list → (Meets list.items set → ⊥) →
-    AllMeet set (lists_of lists) → ⊥
+    AllMeet set (items_of lists) → ⊥
 AllMeet-none lists set list inside none all =
-    none (All-contains (λ xs. Meets xs set) (lists_of lists) list.items all (Contains-map (λ (one : Vec _ Global). one.items) lists list inside))
+    none (All-contains (λ xs. Meets xs set) (items_of lists) list.items all (Contains-map (λ (one : Vec _ Global). one.items) lists list inside))
 
 -- a forbidden rule stays forbidden in a larger set
-forbidden_stays : {N S : Type 0} (rule : Rule N S) (set larger : List S) → IsForbidden set rule → IsWithin set larger → ObeysAlone larger (statement_of rule) →
+forbidden_stays : {N S : Type 0} (rule : Rule N S) (set larger : List S) → IsBroken set rule → IsWithin set larger → ObeysAlone larger (statement_of rule) →
     ⊥
 forbidden_stays (Requires by requirement candidates when) set larger h within obeys = absurd h
 forbidden_stays (Constrains by version_set candidate) set larger (here, inside) within obeys =
@@ -75,7 +77,7 @@ pub HasTwo-refuted : {N S : Type 0} (set : List S) (rules : List (Rule N S)) →
 HasTwo-refuted set rules h = clash_refuted h.rule set rules h.listed h.clash
 
 -- the set breaks no rule, has no second instance, and meets each requirement
-obeys_alone : {N S : Type 0} (rule : Rule N S) (set : List S) → IsAllowed set rule → IsMet set rule → ObeysAlone set (statement_of rule)
+obeys_alone : {N S : Type 0} (rule : Rule N S) (set : List S) → IsAllowed set rule → MeetsRule set rule → ObeysAlone set (statement_of rule)
 obeys_alone (Requires by requirement candidates when) set allowed met = met
 obeys_alone (Constrains by version_set candidate) set allowed met = allowed
 obeys_alone (Lock locked forbidden) set allowed met = allowed
@@ -83,9 +85,9 @@ obeys_alone (Excluded solvable reason) set allowed met = allowed
 obeys_alone (OnePerPackage name instance) set allowed met = tt
 
 pub Obeys-from_tests : {N S : Type 0} (set : List S) (rules : List (Rule N S)) → All (IsAllowed set) rules → All (IsOnlyInstance set rules) rules →
-    All (IsMet set) rules → Obeys set rules
+    All (MeetsRule set) rules → Obeys set rules
 Obeys-from_tests set rules allowed alone met = record {
-  each = λ r listed. obeys_alone r set (All-contains (IsAllowed set) rules r allowed listed) (All-contains (IsMet set) rules r met listed);
+  each = λ r listed. obeys_alone r set (All-contains (IsAllowed set) rules r allowed listed) (All-contains (MeetsRule set) rules r met listed);
   one_each = λ n s t first second inside also. sym
       (All-contains (HasNoOtherInstance set n s) rules (OnePerPackage n t)
       (All-contains (IsOnlyInstance set rules) rules (OnePerPackage n s) alone first inside) second refl also);
@@ -98,12 +100,12 @@ IsWithin-push {S} set larger s within inside x h =
     elim (Contains-push_cases set s x h) [ inl old ↦ within x old | inr same ↦ subst Inside same inside ]
 
 -- each candidate is refuted, and with them the set
-unmet_refuted : {N S : Type 0} (rule : Rule N S) (set wanted : List S) (rules : List (Rule N S)) → IsUnmet set wanted rule →
+unmet_refuted : {N S : Type 0} (rule : Rule N S) (set wanted : List S) (rules : List (Rule N S)) → IsUnmetRequirement set wanted rule →
     All (λ s. IsRefutedFrom (set ++ s ∷ []) rules) wanted → Contains rules rule → IsRefutedFrom set rules
 unmet_refuted {N} {S} (Requires by requirement candidates when) set wanted rules (here, meet, none, are) refuted listed larger within obeys =
     let met : Meets candidates.items larger =
     obeys.each (Requires by requirement candidates when) listed (IsPresent-within by set larger within here)
-    (AllMeet-within (lists_of when.items) set larger within meet) in
+    (AllMeet-within (items_of when.items) set larger within meet) in
     let AllRefuted : List S → Type 0 = λ list. All (λ s. IsRefutedFrom (set ++ s ∷ []) rules) list in
     All-contains (λ s. IsRefutedFrom (set ++ s ∷ []) rules) candidates.items met.shared (subst AllRefuted are refuted) met.in_first larger
     (IsWithin-push set larger met.shared within met.in_second) obeys
@@ -112,9 +114,9 @@ unmet_refuted (Lock locked forbidden) set wanted rules h refuted listed larger w
 unmet_refuted (Excluded solvable reason) set wanted rules h refuted listed larger within obeys = absurd h
 unmet_refuted (OnePerPackage name instance) set wanted rules h refuted listed larger within obeys = absurd h
 
-pub IsOpen-refuted : {N S : Type 0} (set wanted : List S) (rules : List (Rule N S)) → IsOpen set rules wanted →
+pub IsOpenRequirement-refuted : {N S : Type 0} (set wanted : List S) (rules : List (Rule N S)) → IsOpenRequirement set rules wanted →
     All (λ s. IsRefutedFrom (set ++ s ∷ []) rules) wanted → IsRefutedFrom set rules
-IsOpen-refuted set wanted rules h refuted = unmet_refuted h.rule set wanted rules h.unmet refuted h.listed
+IsOpenRequirement-refuted set wanted rules h refuted = unmet_refuted h.rule set wanted rules h.unmet refuted h.listed
 
 -- The search ends, since fewer and fewer candidates of the rules are outside the set.
 
@@ -166,7 +168,7 @@ Contains-all_candidates {N} {S} (r ∷ rules) rule s (zero, below, is) inside =
 Contains-all_candidates (r ∷ rules) rule s (suc k, below, is) inside =
     Contains-append_right (candidates_in r) (all_candidates rules) s (Contains-all_candidates rules rule s (k, omega (arith, below), is) inside)
 
-unmet_outside : {N S : Type 0} (rule : Rule N S) (set wanted : List S) (s : S) → IsUnmet set wanted rule → Contains wanted s → Contains set s → ⊥
+unmet_outside : {N S : Type 0} (rule : Rule N S) (set wanted : List S) (s : S) → IsUnmetRequirement set wanted rule → Contains wanted s → Contains set s → ⊥
 unmet_outside {N} {S} (Requires by requirement candidates when) set wanted s (here, meet, none, are) is inside =
     let Has : List S → Type 0 = λ list. Contains list s in
     none (record { shared = s; in_first = subst Has are is; in_second = inside })
@@ -175,7 +177,8 @@ unmet_outside (Lock locked forbidden) set wanted s h is inside = absurd h
 unmet_outside (Excluded solvable reason) set wanted s h is inside = absurd h
 unmet_outside (OnePerPackage name instance) set wanted s h is inside = absurd h
 
-unmet_named : {N S : Type 0} (rule : Rule N S) (set wanted : List S) (s : S) → IsUnmet set wanted rule → Contains wanted s → Contains (candidates_in rule) s
+unmet_named : {N S : Type 0} (rule : Rule N S) (set wanted : List S) (s : S) → IsUnmetRequirement set wanted rule → Contains wanted s →
+    Contains (candidates_in rule) s
 unmet_named {N} {S} (Requires by requirement candidates when) set wanted s (here, meet, none, are) is =
     let Has : List S → Type 0 = λ list. Contains list s in
     subst Has are is
@@ -185,7 +188,8 @@ unmet_named (Excluded solvable reason) set wanted s h is = absurd h
 unmet_named (OnePerPackage name instance) set wanted s h is = absurd h
 
 pub count_outside-falls : {N S : Type 0} (same : S → S → Bool) (rules : List (Rule N S)) (set wanted : List S) (s : S) → IsIdentity same →
-    IsOpen set rules wanted → Contains wanted s → count_outside same (set ++ s ∷ []) (all_candidates rules) < count_outside same set (all_candidates rules)
+    IsOpenRequirement set rules wanted → Contains wanted s → count_outside same (set ++ s ∷ []) (all_candidates rules) < count_outside same set
+        (all_candidates rules)
 count_outside-falls same rules set wanted s identity h is =
     count_outside-lt same set s (all_candidates rules) (Contains-all_candidates rules h.rule s h.listed (unmet_named h.rule set wanted s h.unmet is))
     (list_any-outside same identity set s (unmet_outside h.rule set wanted s h.unmet is)) (identity.itself s)
@@ -197,25 +201,25 @@ AllMeet-push lists set s all = AllMeet-within lists set (set ++ s ∷ []) (λ x 
 
 IsNeeded-push : {N S : Type 0} (rules : List (Rule N S)) (set : List S) (more s : S) → IsNeeded rules set s → IsNeeded rules (set ++ more ∷ []) s
 IsNeeded-push rules set more s (by_root {when = when} listed meet is here) =
-    by_root listed (AllMeet-push (lists_of when.items) set more meet) is (Contains-append_left set (more ∷ []) s here)
+    by_root listed (AllMeet-push (items_of when.items) set more meet) is (Contains-append_left set (more ∷ []) s here)
 IsNeeded-push rules set more s (by_needed {t = t} {when = when} needed listed meet is here) =
-    by_needed (IsNeeded-push rules set more t needed) listed (AllMeet-push (lists_of when.items) set more meet) is (Contains-append_left set (more ∷ []) s here)
+    by_needed (IsNeeded-push rules set more t needed) listed (AllMeet-push (items_of when.items) set more meet) is (Contains-append_left set (more ∷ []) s here)
 
 -- a candidate of an open requirement is needed
 unmet_needed : {N S : Type 0} (rule : Rule N S) (rules : List (Rule N S)) (set wanted : List S) (s : S) → AllNeeded rules set → Contains rules rule →
-    IsUnmet set wanted rule → Contains wanted s → IsNeeded rules (set ++ s ∷ []) s
+    IsUnmetRequirement set wanted rule → Contains wanted s → IsNeeded rules (set ++ s ∷ []) s
 unmet_needed {N} {S} (Requires Root requirement candidates when) rules set wanted s all listed (here, meet, none, are) is =
     let Has : List S → Type 0 = λ list. Contains list s in
-    by_root listed (AllMeet-push (lists_of when.items) set s meet) (subst Has are is) (Contains-push set s)
+    by_root listed (AllMeet-push (items_of when.items) set s meet) (subst Has are is) (Contains-push set s)
 unmet_needed {N} {S} (Requires (Solvable t) requirement candidates when) rules set wanted s all listed (here, meet, none, are) is =
     let Has : List S → Type 0 = λ list. Contains list s in
-    by_needed (IsNeeded-push rules set s t (all t here)) listed (AllMeet-push (lists_of when.items) set s meet) (subst Has are is) (Contains-push set s)
+    by_needed (IsNeeded-push rules set s t (all t here)) listed (AllMeet-push (items_of when.items) set s meet) (subst Has are is) (Contains-push set s)
 unmet_needed (Constrains by version_set candidate) rules set wanted s all listed h is = absurd h
 unmet_needed (Lock locked forbidden) rules set wanted s all listed h is = absurd h
 unmet_needed (Excluded solvable reason) rules set wanted s all listed h is = absurd h
 unmet_needed (OnePerPackage name instance) rules set wanted s all listed h is = absurd h
 
-pub AllNeeded-push : {N S : Type 0} (rules : List (Rule N S)) (set wanted : List S) (s : S) → AllNeeded rules set → IsOpen set rules wanted →
+pub AllNeeded-push : {N S : Type 0} (rules : List (Rule N S)) (set wanted : List S) (s : S) → AllNeeded rules set → IsOpenRequirement set rules wanted →
     Contains wanted s → AllNeeded rules (set ++ s ∷ [])
 AllNeeded-push {N} {S} rules set wanted s all h is x inside =
     let Needed : S → Type 0 = λ y. IsNeeded rules (set ++ s ∷ []) y in
@@ -225,7 +229,7 @@ AllNeeded-push {N} {S} rules set wanted s all h is x inside =
           (unmet_needed h.rule rules set wanted s all h.listed h.unmet is)
     ]
 
-pub HasNoRepeats-push : {N S : Type 0} (rules : List (Rule N S)) (set wanted : List S) (s : S) → HasNoRepeats set → IsOpen set rules wanted →
+pub HasNoRepeats-push : {N S : Type 0} (rules : List (Rule N S)) (set wanted : List S) (s : S) → HasNoRepeats set → IsOpenRequirement set rules wanted →
     Contains wanted s → HasNoRepeats (set ++ s ∷ [])
 HasNoRepeats-push rules set wanted s once h is =
     all_pairs_push ◌≢◌ set s once (λ k d below same. unmet_outside h.rule set wanted s h.unmet is (k, below, get_or_default set k s d below ∙ same))

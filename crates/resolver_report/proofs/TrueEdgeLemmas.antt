@@ -21,7 +21,7 @@ use Rattle.resolver_report.specs.Graphs.{first_mentions, place_in, edge_in, grap
 use Rattle.resolver_report.specs.Same.{same_node}
 use Rattle.resolver_report.specs.Shapes.{Shape}
 use Rattle.resolver_clause_store.specs.TrueRules.{demands_by, IsTrueRule}
-use Rattle.resolver_report.specs.TrueEdges.{IsRequirerWith, HasRequirement, IsTrueBetween, IsTrueEdge, AreEdgesTrue}
+use Rattle.resolver_report.specs.TrueEdges.{IsRequirerWith, DemandsRequirement, IsTrueBetween, IsTrueEdge, AreEdgesTrue}
 use Rattle.resolver_report.proofs.GraphLemmas.{same_node_is_identity}
 use Rattle.resolver_report.proofs.ShapeLemmas.{AllByRecursion-append, Has, EndsIn, together, first_ends, without_unresolved, without_ends}
 
@@ -33,13 +33,13 @@ module _ {N S : Type 0} (u : Universe N S) (root : Demands) where
   requirer_with P ByRoot h = h
   requirer_with P (BySolvable s) h = h
 
-  candidate_links : (source : ConflictNode S) (r : Requirement) (cs : List S) → IsRequirerWith u root (HasRequirement r) source →
+  candidate_links : (source : ConflictNode S) (r : Requirement) (cs : List S) → IsRequirerWith u root (DemandsRequirement r) source →
       ((s : S) → Contains cs s → Contains (requirement_candidates u r) s) → AllByRecursion IsTrueLink (map (λ d. requirement_link source r (Solvable d)) cs)
   candidate_links source r [] requirer within = tt
   candidate_links source r (c ∷ cs) requirer within =
       ((requirer, within c (zero, omega arith, refl)), candidate_links source r cs requirer (λ s h. within s (Contains-append_right (c ∷ []) cs s h)))
 
-  requirement_links_true : (source : ConflictNode S) (r : Requirement) (cs : List S) → IsRequirerWith u root (HasRequirement r) source →
+  requirement_links_true : (source : ConflictNode S) (r : Requirement) (cs : List S) → IsRequirerWith u root (DemandsRequirement r) source →
       cs ≡ requirement_candidates u r → AllByRecursion IsTrueLink (requirement_links source r cs)
   requirement_links_true source r [] requirer are = ((requirer, sym are), tt)
   requirement_links_true source r (c ∷ cs) requirer are =
@@ -74,7 +74,7 @@ module _ {N S : Type 0} (u : Universe N S) (root : Demands) where
     links_of_true : (earlier : List (Rule N S)) → All (IsTrueRule u root) earlier → (rule : Rule N S) → IsTrueRule u root rule →
         AllByRecursion IsTrueLink (links_of same_name earlier rule)
     links_of_true earlier before (Requires by requirement candidates when) (r, stated, same, are, implied) =
-        requirement_links_true (node_by by) requirement candidates.items (requirer_with (HasRequirement requirement) by (r, stated, same)) are
+        requirement_links_true (node_by by) requirement candidates.items (requirer_with (DemandsRequirement requirement) by (r, stated, same)) are
     links_of_true earlier before (Constrains by version_set candidate) (stated, other) =
         ((requirer_with (λ d. Contains d.constraints version_set) by stated, other), tt)
     links_of_true earlier before (Lock locked forbidden) h = ((refl, h), tt)

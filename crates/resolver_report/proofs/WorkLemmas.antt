@@ -11,10 +11,10 @@ use Rattle.resolver_report.specs.declared.implications.Implication.{Implication}
 use Rattle.resolver_report.specs.declared.implications.Waiting.{Waiting}
 use Rattle.resolver_report.specs.declared.graph.NodeId.{NodeId}
 use Rattle.resolver_report.specs.EdgePlaces.{appended, lists_in}
-use Rattle.resolver_report.specs.Implications.{HasLeastMarks, Implied, each_marked, follows, implied, implies}
+use Rattle.resolver_report.specs.Implications.{HasLeastMarks, Implied, each_marked, implied, implies, is_implied}
 use Rattle.resolver_report.specs.Marks.{IsClosed, is_marked, some_marked}
 use Rattle.resolver_report.specs.WorkLists.{AreTended, IsReady, IsRight, IsSameWork, IsTended, IsWaiting, IsWaitingWith, KeepsOthersTended, KeepsTended}
-use Rattle.resolver_report.specs.WorkLists.{WaitsAt, Work, advanced, after_waits, has_mark, implied_at, is_ready, left_at, moved, up_to_unmarked, waits}
+use Rattle.resolver_report.specs.WorkLists.{WaitsAt, Work, advanced, after_waits, implied_at, is_ready, last_is_marked, left_at, moved, up_to_unmarked, waits}
 use Rattle.resolver_report.proofs.AlikeLemmas.{itself_number, same_numbers}
 use Rattle.resolver_report.proofs.LeastLemmas.{IsWithinMarks}
 use Rattle.resolver_report.proofs.CandidateListLemmas.{cases_lt_suc}
@@ -24,15 +24,15 @@ use Rattle.resolver_report.proofs.MonotoneLemmas.{and_within, some_within}
 
 -- the groups that are left
 module _ (marks : List Bool) (groups : List (List NodeId)) where
-  pub mark_before : (k : ℕ) → 0 < k → has_mark marks groups k ≡ some_marked marks (get_or groups (k - 1) [])
+  pub mark_before : (k : ℕ) → 0 < k → last_is_marked marks groups k ≡ some_marked marks (get_or groups (k - 1) [])
   mark_before zero h = absurd (omega (arith, h))
   mark_before (suc k) h = let same : suc k - 1 ≡ k = omega arith in ap (λ j. some_marked marks (get_or groups j [])) (sym same)
 
-  pub marked_some : (k : ℕ) → has_mark marks groups k ≡ true → 0 < k
+  pub marked_some : (k : ℕ) → last_is_marked marks groups k ≡ true → 0 < k
   marked_some zero h = absurd (false≢true h)
   marked_some (suc k) h = omega arith
 
-  pub down_marked : (k : ℕ) → has_mark marks groups k ≡ true → up_to_unmarked marks groups k ≡ up_to_unmarked marks groups (k - 1)
+  pub down_marked : (k : ℕ) → last_is_marked marks groups k ≡ true → up_to_unmarked marks groups k ≡ up_to_unmarked marks groups (k - 1)
   down_marked zero h = absurd (false≢true h)
   down_marked (suc k) h = let same : suc k - 1 ≡ k = omega arith in ap (λ b. cond b (up_to_unmarked marks groups k) (suc k)) h ∙
       ap (up_to_unmarked marks groups) (sym same)
@@ -45,12 +45,12 @@ module _ (marks : List Bool) (groups : List (List NodeId)) where
       at_test true h = omega (arith, h)
       at_test false h = omega arith
 
-  pub down_unmarked : (k : ℕ) → has_mark marks groups (up_to_unmarked marks groups k) ≡ false
+  pub down_unmarked : (k : ℕ) → last_is_marked marks groups (up_to_unmarked marks groups k) ≡ false
   down_unmarked zero = refl
   down_unmarked (suc k) = at_test (some_marked marks (get_or groups k [])) refl (down_unmarked k)
     where
-      at_test : (b : Bool) → some_marked marks (get_or groups k []) ≡ b → has_mark marks groups (up_to_unmarked marks groups k) ≡ false →
-          has_mark marks groups (cond b (up_to_unmarked marks groups k) (suc k)) ≡ false
+      at_test : (b : Bool) → some_marked marks (get_or groups k []) ≡ b → last_is_marked marks groups (up_to_unmarked marks groups k) ≡ false →
+          last_is_marked marks groups (cond b (up_to_unmarked marks groups k) (suc k)) ≡ false
       at_test true e h = h
       at_test false e h = e
 
@@ -65,7 +65,7 @@ module _ (marks : List Bool) (groups : List (List NodeId)) where
           ap (λ b. b && each_marked marks (drop (suc k) groups)) e ∙ h)
       at_test false e rest = h
 
-  pub down_smaller : (k : ℕ) → has_mark marks groups k ≡ true → up_to_unmarked marks groups k < k
+  pub down_smaller : (k : ℕ) → last_is_marked marks groups k ≡ true → up_to_unmarked marks groups k < k
   down_smaller k h = let some : 0 < k = marked_some k h in
       let least : up_to_unmarked marks groups (k - 1) ≤ k - 1 = down_least (k - 1) in omega (arith, some, least, down_marked k h)
 
@@ -219,7 +219,7 @@ module _ (is : List Implied) (w : Work) where
       }))
 
   -- the implication that is advanced
-  pub moved_tended : (c k : ℕ) → c < length w.left → (implied_at is c).node < length w.marks → has_mark w.marks (implied_at is c).groups k ≡ false →
+  pub moved_tended : (c k : ℕ) → c < length w.left → (implied_at is c).node < length w.marks → last_is_marked w.marks (implied_at is c).groups k ≡ false →
       IsTended is (moved (implied_at is c) w c k) c
   moved_tended c zero below node h = inl (marked_at w.marks (implied_at is c).node node)
   moved_tended c (suc k) below node h =
@@ -264,7 +264,7 @@ module _ (is : List Implied) (w : Work) where
         at_place (inr apart) = omega (arith, right.most d lt, left_other w.left d c k apart)
 
     -- if each group of an implication has a mark, its node is marked in all marks that obey the implications
-    followed : (others : List Bool) → IsClosed (length w.marks) (follows is) others → IsWithinMarks w.marks others →
+    followed : (others : List Bool) → IsClosed (length w.marks) (is_implied is) others → IsWithinMarks w.marks others →
         each_marked w.marks (implied_at is c).groups ≡ true → is_marked others (implied_at is c).node ≡ true
     followed others closed within met =
         closed (implied_at is c).node node_below
@@ -274,12 +274,12 @@ module _ (is : List Implied) (w : Work) where
         both : {a b : Bool} → a ≡ true → b ≡ true → (a && b) ≡ true
         both e f = rw (e, f) refl
 
-        any_at : (js : List Implied) (k n : ℕ) → k < length js → implies others n (implied_at js k) ≡ true → follows js others n ≡ true
+        any_at : (js : List Implied) (k n : ℕ) → k < length js → implies others n (implied_at js k) ≡ true → is_implied js others n ≡ true
         any_at [] k n lt h = absurd (omega (arith, lt))
         any_at (j ∷ js) zero n lt h = rw h refl
         any_at (j ∷ js) (suc k) n lt h = at_test (implies others n j) (any_at js k n (omega (arith, lt)) h)
           where
-            at_test : (b : Bool) → follows js others n ≡ true → (b || follows js others n) ≡ true
+            at_test : (b : Bool) → is_implied js others n ≡ true → (b || is_implied js others n) ≡ true
             at_test true g = refl
             at_test false g = g
 
@@ -296,11 +296,11 @@ module _ (is : List Implied) (w : Work) where
         long : length (set w.marks (implied_at is c).node true) ≡ length w.marks
         long = length-set w.marks (implied_at is c).node true
 
-        sound : (others : List Bool) → IsClosed (length (set w.marks (implied_at is c).node true)) (follows is) others → (n : ℕ) →
+        sound : (others : List Bool) → IsClosed (length (set w.marks (implied_at is c).node true)) (is_implied is) others → (n : ℕ) →
             is_marked (set w.marks (implied_at is c).node true) n ≡ true → is_marked others n ≡ true
         sound others closed n h = at_mark (marked_cases w.marks (implied_at is c).node n h)
           where
-            before : IsClosed (length w.marks) (follows is) others
+            before : IsClosed (length w.marks) (is_implied is) others
             before m lt = closed m (omega (arith, lt, long))
 
             at_mark : (is_marked w.marks n ≡ true) ⊎ (n ≡ (implied_at is c).node) → is_marked others n ≡ true
@@ -343,7 +343,7 @@ module _ (is : List Implied) (w : Work) where
         at_left (suc k) = refl
 
     -- fewer groups are left
-    pub advanced_smaller : has_mark w.marks (implied_at is c).groups (left_at w c) ≡ true → sum (advanced is w c).left < sum w.left
+    pub advanced_smaller : last_is_marked w.marks (implied_at is c).groups (left_at w c) ≡ true → sum (advanced is w c).left < sum w.left
     advanced_smaller h =
         let one : sum (set w.left c reached) + left_at w c ≡ sum w.left + reached = sum_by-set (λ x. x) w.left c reached 0 (omega (arith, below, right.long)) in
         let fewer : reached < left_at w c = down_smaller w.marks (implied_at is c).groups (left_at w c) h in
@@ -354,12 +354,12 @@ module _ (is : List Implied) (w : Work) where
   pub ends_least : IsRight is w → AreTended is w → w.woken ≡ [] → HasLeastMarks (length w.marks) is w.marks
   ends_least right tended none = record { long = refl; least = record { closed = closed; least = right.sound } }
     where
-      any_place : (n : ℕ) (js : List Implied) → follows js w.marks n ≡ true → (k : ℕ) × (k < length js) × (implies w.marks n (implied_at js k) ≡ true)
+      any_place : (n : ℕ) (js : List Implied) → is_implied js w.marks n ≡ true → (k : ℕ) × (k < length js) × (implies w.marks n (implied_at js k) ≡ true)
       any_place n [] h = absurd (false≢true h)
       any_place n (j ∷ js) h = at_test (implies w.marks n j) refl (any_place n js)
         where
           at_test : (b : Bool) → implies w.marks n j ≡ b →
-              (follows js w.marks n ≡ true → (k : ℕ) × (k < length js) × (implies w.marks n (implied_at js k) ≡ true)) → (k : ℕ) × (k < length (j ∷ js)) ×
+              (is_implied js w.marks n ≡ true → (k : ℕ) × (k < length js) × (implies w.marks n (implied_at js k) ≡ true)) → (k : ℕ) × (k < length (j ∷ js)) ×
               (implies w.marks n (implied_at (j ∷ js) k) ≡ true)
           at_test true e rest = (zero, omega arith, e)
           at_test false e rest = let found = rest (rw e at h) in (suc found.0, omega (arith, found.1), found.2)
@@ -385,7 +385,7 @@ module _ (is : List Implied) (w : Work) where
           let there = subst Has none (h.there.wakes found.0 found.1 found.2) in
           omega (arith, there.1)
 
-      closed : IsClosed (length w.marks) (follows is) w.marks
+      closed : IsClosed (length w.marks) (is_implied is) w.marks
       closed n lt h = at_place (any_place n is h)
         where
           at_tended : (c : ℕ) → c < length is → implies w.marks n (implied_at is c) ≡ true → IsTended is w c → is_marked w.marks n ≡ true
@@ -435,7 +435,7 @@ module _ (is : List Implied) (w : Work) (ws : List Waiting) where
         ready same n inside e some =
             let marked : some_marked w.marks (get_or (implied_at is c).groups (left_at w c - 1) []) ≡ true =
             marked_among w.marks (get_or (implied_at is c).groups (left_at w c - 1) []) n inside e in
-            true≢false (sym (both (left_at w c) (has_mark w.marks (implied_at is c).groups (left_at w c))
+            true≢false (sym (both (left_at w c) (last_is_marked w.marks (implied_at is c).groups (left_at w c))
             (mark_before w.marks (implied_at is c).groups (left_at w c) some ∙ marked)) ∙ sym (ap (is_ready is taken) same) ∙ stale)
           where
             both : (k : ℕ) (b : Bool) → b ≡ true → (k == k && b) ≡ true
@@ -456,22 +456,22 @@ module _ (is : List Implied) (w : Work) (ws : List Waiting) where
       where
         same : left_at w x.implication ≡ x.left
         same = same_numbers (left_at w x.implication) x.left
-            (left_true (left_at w x.implication == x.left) (has_mark w.marks (implied_at is x.implication).groups x.left) h)
+            (left_true (left_at w x.implication == x.left) (last_is_marked w.marks (implied_at is x.implication).groups x.left) h)
 
-        there : has_mark w.marks (implied_at is x.implication).groups x.left ≡ true
-        there = right_true (left_at w x.implication == x.left) (has_mark w.marks (implied_at is x.implication).groups x.left) h
+        there : last_is_marked w.marks (implied_at is x.implication).groups x.left ≡ true
+        there = right_true (left_at w x.implication == x.left) (last_is_marked w.marks (implied_at is x.implication).groups x.left) h
 
-        marked : has_mark w.marks (implied_at is x.implication).groups (left_at w x.implication) ≡ true
-        marked = ap (has_mark w.marks (implied_at is x.implication).groups) same ∙ there
+        marked : last_is_marked w.marks (implied_at is x.implication).groups (left_at w x.implication) ≡ true
+        marked = ap (last_is_marked w.marks (implied_at is x.implication).groups) same ∙ there
 
-        none : (k : ℕ) → has_mark w.marks [] k ≡ false
+        none : (k : ℕ) → last_is_marked w.marks [] k ≡ false
         none zero = refl
         none (suc k) = refl
 
         at_place : (x.implication < length is) ⊎ (length is ≤ x.implication) → x.implication < length is
         at_place (inl lt) = lt
         at_place (inr past) = absurd (true≢false
-            (sym there ∙ ap (λ i. has_mark w.marks i.groups x.left) (get_or_past is x.implication (record { groups = []; node = 0 }) past) ∙ none x.left))
+            (sym there ∙ ap (λ i. last_is_marked w.marks i.groups x.left) (get_or_past is x.implication (record { groups = []; node = 0 }) past) ∙ none x.left))
 
 -- the invariant of equal work
 pub same_right : (is : List Implied) (v w : Work) → IsSameWork v w → IsRight is v → IsRight is w

@@ -4,7 +4,7 @@ use Rattle.std.specs.List.{flat_map}
 use Rattle.std.specs.HashMap.{get}
 use Rattle.resolver_clause_store.specs.declared.By.TheVariants.{Root, Solvable}
 use Rattle.resolver_report.specs.declared.candidate_lists.CandidateLists.{CandidateLists}
-use Rattle.resolver_report.specs.Listed.{items_at, items_if}
+use Rattle.resolver_report.specs.Listed.{items_if, optional_items}
 use Rattle.resolver_clause_store.specs.declared.Rule.{Rule}
 use Rattle.resolver_clause_store.specs.declared.Rule.TheVariants.{Requires, Constrains, Lock, Excluded, OnePerPackage}
 
@@ -29,4 +29,4 @@ candidates_for same s (OnePerPackage name instance) = []
 -- the lists have just the candidates of the rules' requirements, by requirer
 pub record HasCandidateLists {N S : Type 0} (same : S → S → Bool) (rules : List (Rule N S)) (lists : CandidateLists S) : Type 0 where
   pub root : lists.by_root.items ≡ flat_map root_candidates_of rules
-  pub solvables : (s : S) → items_at (get same lists.by_solvable s) ≡ flat_map (candidates_for same s) rules
+  pub solvables : (s : S) → optional_items (get same lists.by_solvable s) ≡ flat_map (candidates_for same s) rules

@@ -6,7 +6,7 @@ use Rattle.std.specs.HashMap.{HashMap, get}
 use Rattle.std.specs.declared.hash.FoldHasher.{FoldHasher}
 use Rattle.std.specs.declared.hash.BuildHasherDefault.{BuildHasherDefault}
 use Rattle.resolver_report.specs.declared.keys.NodeKey.{NodeKey}
-use Rattle.resolver_report.specs.Listed.{items_at, items_if}
+use Rattle.resolver_report.specs.Listed.{items_if, optional_items}
 use Rattle.resolver_report.specs.Keys.{same_key}
 
 abbrev pub Classes : Type 0
@@ -24,8 +24,8 @@ places_of_key keys count q = filter (λ n. has_key q (slice_get keys n)) (range_
 
 -- the map has the places of each key, in order
 abbrev pub HasClasses : (NodeKey → NodeKey → Bool) → List (Option NodeKey) → Classes → Type 0
-HasClasses same keys m = (q : NodeKey) → items_at (get same m q) ≡ places_of_key keys (length keys) q
+HasClasses same keys m = (q : NodeKey) → optional_items (get same m q) ≡ places_of_key keys (length keys) q
 
 -- the place is added to the class of its key, if it has one
 abbrev pub AddsMember : (NodeKey → NodeKey → Bool) → Classes → Classes → Option NodeKey → ℕ → Type 0
-AddsMember same old new key n = (q : NodeKey) → items_at (get same new q) ≡ items_at (get same old q) ++ items_if (has_key q (Some key)) (n ∷ [])
+AddsMember same old new key n = (q : NodeKey) → optional_items (get same new q) ≡ optional_items (get same old q) ++ items_if (has_key q (Some key)) (n ∷ [])

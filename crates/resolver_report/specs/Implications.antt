@@ -22,10 +22,10 @@ abbrev pub implies : List Bool → ℕ → Implied → Bool
 implies marks n i = i.node == n && each_marked marks i.groups
 
 -- some implication marks it
-abbrev pub follows : List Implied → List Bool → ℕ → Bool
-follows is marks n = list_any (implies marks n) is
+abbrev pub is_implied : List Implied → List Bool → ℕ → Bool
+is_implied is marks n = list_any (implies marks n) is
 
 -- the fewest marks of `count` nodes that obey the implications
 pub record HasLeastMarks (count : ℕ) (is : List Implied) (marks : List Bool) : Type 0 where
   pub long : length marks ≡ count
-  pub least : IsLeastClosed count (follows is) marks
+  pub least : IsLeastClosed count (is_implied is) marks

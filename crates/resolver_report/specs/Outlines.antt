@@ -20,11 +20,11 @@ abbrev pub known_group : Option (Option ℕ) → Option ℕ
 known_group None = None
 known_group (Some group) = group
 
-abbrev pub group_at : List (Option ℕ) → ℕ → Option ℕ
-group_at groups n = known_group (slice_get groups n)
+abbrev pub group_of_node : List (Option ℕ) → ℕ → Option ℕ
+group_of_node groups n = known_group (slice_get groups n)
 
 abbrev pub groups_in : {S : Type 0} → Findings S → ℕ → Option ℕ
-groups_in f n = group_at f.groups.items n
+groups_in f n = group_of_node f.groups.items n
 
 abbrev pub run_told_view : RunOutline → RunTold
 run_told_view s = record { requirement = s.requirement; unresolved = s.is_unresolved; viable = s.is_viable; candidates = s.candidates.items }
@@ -74,7 +74,7 @@ GroupsTold = HashSet ℕ (BuildHasherDefault FoldHasher)
 
 -- both nodes are in one group
 abbrev pub are_together : List (Option ℕ) → NodeId → NodeId → Bool
-are_together groups m n = same_group_as (group_at groups m.0) (group_at groups n.0)
+are_together groups m n = same_group_as (group_of_node groups m.0) (group_of_node groups n.0)
 
 -- the nodes, and this one unless one of its group is among them
 abbrev pub with_node : List (Option ℕ) → NodeId → List NodeId → List NodeId
@@ -82,4 +82,4 @@ with_node groups n found = if list_any (are_together groups n) found then found 
 
 -- the set has just the groups of these nodes
 abbrev pub HasGroupsOf : List (Option ℕ) → List NodeId → GroupsTold → Type 0
-HasGroupsOf groups found told = (k : ℕ) → contains nat_eq told k ≡ list_any (λ m. same_group_as (Some k) (group_at groups m.0)) found
+HasGroupsOf groups found told = (k : ℕ) → contains nat_eq told k ≡ list_any (λ m. same_group_as (Some k) (group_of_node groups m.0)) found

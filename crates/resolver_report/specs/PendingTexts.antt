@@ -152,14 +152,14 @@ module _ {I N S : Type 0} (universe : I → Universe N S) (outline : Outline I N
   frames_work limit [] = 0
   frames_work limit (f ∷ fs) = 1 + left_work (limit - length fs) f.candidates f.runs + frames_work limit fs
 
-  abbrev pub pending_work : PendingTold → ℕ
-  pending_work p = left_work (p.limit - length p.frames) p.candidates p.runs + frames_work p.limit p.frames
+  abbrev pub telling_work : PendingTold → ℕ
+  telling_work p = left_work (p.limit - length p.frames) p.candidates p.runs + frames_work p.limit p.frames
 
   -- one step: the text written and the text still to be told are together the same, and less is left to do
   pub record IsTellStep (old new : PendingTold) (out out' : List ℕ) : Type 0 where
     pub text : out' ++ pending_text new ≡ out ++ pending_text old
-    pub work : pending_work new < pending_work old
+    pub work : telling_work new < telling_work old
 
   -- the same of what the code holds
-  abbrev pub Tells : Pending → Pending → String Global → String Global → Type 0
-  Tells old new out out' = IsTellStep (pending_view old) (pending_view new) (string_bytes out) (string_bytes out')
+  abbrev pub TellsPending : Pending → Pending → String Global → String Global → Type 0
+  TellsPending old new out out' = IsTellStep (pending_view old) (pending_view new) (string_bytes out) (string_bytes out')

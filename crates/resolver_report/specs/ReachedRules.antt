@@ -1,7 +1,7 @@
 -- The solvables that the requirements of a list of rules reach, and the rules about those alone.
 use Rattle.std.specs.Prelude.{List, Contains, All, ⊤, Vec}
 use Rattle.std.proofs.Common.{Global}
-use Rattle.resolver_clause_store.specs.Lists.{IsCut}
+use Rattle.resolver_clause_store.specs.Lists.{IsInterleaving}
 use Rattle.resolver_clause_store.specs.declared.Requirement.{Requirement}
 use Rattle.resolver_clause_store.specs.declared.By.{By}
 use Rattle.resolver_clause_store.specs.declared.By.TheVariants.{Root, Solvable}
@@ -31,7 +31,7 @@ IsKept rules (OnePerPackage name instance) = IsReachedBy rules instance
 -- the second list has just the elements of the first for which P holds, in order
 pub record LeavesJust {X : Type 0} (P : X → Type 0) (xs left : List X) : Type 0 where
   pub dropped : List X
-  pub cut : IsCut xs left dropped
+  pub cut : IsInterleaving xs left dropped
   pub all_left : All P left
   pub none_dropped : All (λ x. P x → ⊥) dropped
 

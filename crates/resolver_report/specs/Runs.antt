@@ -12,14 +12,14 @@ pub record Run : Type 0 where
   pub requirement : Requirement
   pub targets : List NodeId
 
-abbrev pub joined : Requirement → NodeId → List Run → List Run
-joined r n [] = record { requirement = r; targets = n ∷ [] } ∷ []
-joined r n (run ∷ runs) = if same_requirement r run.requirement
+abbrev pub with_target : Requirement → NodeId → List Run → List Run
+with_target r n [] = record { requirement = r; targets = n ∷ [] } ∷ []
+with_target r n (run ∷ runs) = if same_requirement r run.requirement
     then record { requirement = r; targets = n ∷ run.targets } ∷ runs
     else record { requirement = r; targets = n ∷ [] } ∷ run ∷ runs
 
 abbrev pub with_edge : {S : Type 0} → ConflictEdge S → NodeId → List Run → List Run
-with_edge (Requires r) n runs = joined r n runs
+with_edge (Requires r) n runs = with_target r n runs
 with_edge (Conflict c) n runs = runs
 
 -- the runs of the requirement edges

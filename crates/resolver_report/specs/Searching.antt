@@ -10,14 +10,14 @@ use Rattle.resolver_report.specs.declared.plain.Untried.{Untried}
 use Rattle.resolver_clause_store.specs.declared.Rule.{Rule}
 use Rattle.resolver_clause_store.specs.declared.Rule.TheVariants.{Requires, Constrains, Lock, Excluded, OnePerPackage}
 use Rattle.resolver_clause_store.specs.Rules.{AllNeeded, IsRefuted, Obeys}
-use Rattle.resolver_report.specs.Plain.{IsOpen, IsRefutedFrom}
+use Rattle.resolver_report.specs.Plain.{IsOpenRequirement, IsRefutedFrom}
 use Rattle.std.specs.Global.{Global}
 
 -- the result of testing the set against the rules
-abbrev pub Shows : {N S : Type 0} → List (Rule N S) → List S → Examined S → Type 0
-Shows rules set Hopeless = IsRefutedFrom set rules
-Shows rules set Meets = Obeys set rules
-Shows rules set (Open wanted) = IsOpen set rules wanted.now
+abbrev pub IsExamined : {N S : Type 0} → List (Rule N S) → List S → Examined S → Type 0
+IsExamined rules set Hopeless = IsRefutedFrom set rules
+IsExamined rules set Meets = Obeys set rules
+IsExamined rules set (Open wanted) = IsOpenRequirement set rules wanted.now
 
 -- the untried candidates of each choice, the last choice first
 abbrev pub untried_view : {S : Type 0} → List (Untried S) → List (List S)
@@ -29,9 +29,9 @@ AllUntried P set [] = ⊤
 AllUntried P set (list ∷ lists) = All (P (take (length lists) set)) list × AllUntried P set lists
 
 -- s is a candidate of a requirement that the set does not meet, and each member of the set is needed and stands once
-pub record IsChoice {N S : Type 0} (rules : List (Rule N S)) (set : List S) (s : S) : Type 0 where
+pub record IsNeededChoice {N S : Type 0} (rules : List (Rule N S)) (set : List S) (s : S) : Type 0 where
   pub wanted : List S
-  pub open_there : IsOpen set rules wanted
+  pub open_there : IsOpenRequirement set rules wanted
   pub listed : Contains wanted s
   pub needed : AllNeeded rules set
   pub once : HasNoRepeats set
@@ -43,13 +43,13 @@ IsRefutedWith rules set s = IsRefutedFrom (set ++ s ∷ []) rules
 -- between two steps: the rules are refuted if none of the untried candidates, with the choices before it, is in a set that obeys them
 pub record IsSearching {N S : Type 0} (rules : List (Rule N S)) (set : List S) (untried : List (List S)) : Type 0 where
   pub depth : length set ≡ length untried - 1
-  pub choices : AllUntried (IsChoice rules) set untried
+  pub choices : AllUntried (IsNeededChoice rules) set untried
   pub refuted : AllUntried (IsRefutedWith rules) set untried → IsRefuted rules
 
 -- the same right after a choice, before the set is tested
-pub record IsChosen {N S : Type 0} (rules : List (Rule N S)) (set : List S) (untried : List (List S)) : Type 0 where
+pub record IsAfterChoice {N S : Type 0} (rules : List (Rule N S)) (set : List S) (untried : List (List S)) : Type 0 where
   pub depth : length set ≡ length untried
-  pub choices : AllUntried (IsChoice rules) set untried
+  pub choices : AllUntried (IsNeededChoice rules) set untried
   pub refuted : IsRefutedFrom set rules → AllUntried (IsRefutedWith rules) set untried → IsRefuted rules
   pub needed : AllNeeded rules set
   pub once : HasNoRepeats set
@@ -76,27 +76,27 @@ abbrev pub choice_work : ℕ → ℕ → ℕ
 choice_work width zero = 1
 choice_work width (suc outside) = 2 + width * choice_work width outside
 
-abbrev pub work_at : {N S : Type 0} → (S → S → Bool) → List (Rule N S) → List S → ℕ
-work_at same rules set = choice_work (length (all_candidates rules)) (count_outside same set (all_candidates rules))
+abbrev pub remaining_work : {N S : Type 0} → (S → S → Bool) → List (Rule N S) → List S → ℕ
+remaining_work same rules set = choice_work (length (all_candidates rules)) (count_outside same set (all_candidates rules))
 
 -- a bound of the steps that are left
 abbrev pub search_work : {N S : Type 0} → (S → S → Bool) → List (Rule N S) → List S → List (List S) → ℕ
 search_work same rules set [] = 0
-search_work same rules set (list ∷ lists) = 1 + length list * work_at same rules (take (length lists) set) + search_work same rules set lists
+search_work same rules set (list ∷ lists) = 1 + length list * remaining_work same rules (take (length lists) set) + search_work same rules set lists
 
 abbrev pub work_of_choice : {N S : Type 0} → (S → S → Bool) → List (Rule N S) → List S → List (List S) → ℕ
 work_of_choice same rules set untried =
     choice_work (length (all_candidates rules)) (suc (count_outside same set (all_candidates rules))) + search_work same rules set untried
 
 -- what each result of a step means
-abbrev pub IsStep : {N S : Type 0} → (S → S → Bool) → List (Rule N S) → List S → List (List S) → ℕ → Step → Type 0
-IsStep same rules set untried bound GoesOn = IsSearching rules set untried × (search_work same rules set untried < bound)
-IsStep same rules set untried bound Found = Obeys set rules × AllNeeded rules set × HasNoRepeats set
-IsStep same rules set untried bound Refuted = IsRefuted rules
+abbrev pub IsSearchStep : {N S : Type 0} → (S → S → Bool) → List (Rule N S) → List S → List (List S) → ℕ → Step → Type 0
+IsSearchStep same rules set untried bound GoesOn = IsSearching rules set untried × (search_work same rules set untried < bound)
+IsSearchStep same rules set untried bound Found = Obeys set rules × AllNeeded rules set × HasNoRepeats set
+IsSearchStep same rules set untried bound Refuted = IsRefuted rules
 
 -- the same of what the code holds
 abbrev pub IsStepFrom : {N S : Type 0} → (S → S → Bool) → List (Rule N S) → Vec S Global → Vec (Untried S) Global → ℕ → Step → Type 0
-IsStepFrom same rules set untried bound step = IsStep same rules set.items (untried_view untried.items) bound step
+IsStepFrom same rules set untried bound step = IsSearchStep same rules set.items (untried_view untried.items) bound step
 
 -- the same bound, with the candidates of one more choice
 abbrev pub work_with : {N S : Type 0} → (S → S → Bool) → List (Rule N S) → Vec S Global → List S → Vec (Untried S) Global → ℕ

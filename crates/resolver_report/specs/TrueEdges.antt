@@ -41,8 +41,8 @@ IsRequirerWith u root P UnresolvedDependency = ⊥
 IsRequirerWith u root P (Reason r) = ⊥
 
 -- the demands have the requirement, whatever its condition
-abbrev pub HasRequirement : Requirement → Demands → Type 0
-HasRequirement requirement d = (r : ConditionalRequirement) × Contains d.requirements r × (r.requirement ≡ requirement)
+abbrev pub DemandsRequirement : Requirement → Demands → Type 0
+DemandsRequirement requirement d = (r : ConditionalRequirement) × Contains d.requirements r × (r.requirement ≡ requirement)
 
 -- the node is one of the candidates, or the unresolved node where there are none
 abbrev pub IsCandidateNode : {S : Type 0} → List S → ConflictNode S → Type 0
@@ -53,7 +53,7 @@ IsCandidateNode candidates (Reason r) = ⊥
 
 -- what the edge says from the first node to the second is stated by the provider or the problem
 abbrev pub IsTrueBetween : {N S : Type 0} → Universe N S → Demands → ConflictNode S → ConflictEdge S → ConflictNode S → Type 0
-IsTrueBetween u root source (Required requirement) target = IsRequirerWith u root (HasRequirement requirement) source ×
+IsTrueBetween u root source (Required requirement) target = IsRequirerWith u root (DemandsRequirement requirement) source ×
     IsCandidateNode (requirement_candidates u requirement) target
 IsTrueBetween u root source (Conflict (ByConstraint v)) target = IsRequirerWith u root (λ d. Contains d.constraints v) source ×
     IsSolvableWith (Contains (others u v)) target

@@ -5,7 +5,7 @@ use Rattle.resolver_report.specs.declared.implications.Marking.{Marking}
 use Rattle.resolver_report.specs.declared.implications.Waiting.{Waiting}
 use Rattle.resolver_report.specs.declared.graph.NodeId.{NodeId}
 use Rattle.resolver_report.specs.EdgePlaces.{appended, lists_in}
-use Rattle.resolver_report.specs.Implications.{Implied, each_marked, follows}
+use Rattle.resolver_report.specs.Implications.{Implied, each_marked, is_implied}
 use Rattle.resolver_report.specs.Marks.{IsClosed, is_marked, some_marked}
 
 pub record Work : Type 0 where
@@ -27,9 +27,9 @@ abbrev pub waits : ℕ → ℕ → Waiting
 waits c left = record { implication = c; left = left }
 
 -- the last of the first groups has a mark
-abbrev pub has_mark : List Bool → List (List NodeId) → ℕ → Bool
-has_mark marks groups zero = false
-has_mark marks groups (suc k) = some_marked marks (slice_index_or groups k [])
+abbrev pub last_is_marked : List Bool → List (List NodeId) → ℕ → Bool
+last_is_marked marks groups zero = false
+last_is_marked marks groups (suc k) = some_marked marks (slice_index_or groups k [])
 
 -- how many of the first groups are left once the marked ones at the end are dropped
 abbrev pub up_to_unmarked : List Bool → List (List NodeId) → ℕ → ℕ
@@ -38,7 +38,7 @@ up_to_unmarked marks groups (suc k) = if some_marked marks (slice_index_or group
 
 -- the woken implication still waits for a mark in the group that woke it
 abbrev pub is_ready : List Implied → Work → Waiting → Bool
-is_ready is w x = left_at w x.implication == x.left && has_mark w.marks (implied_at is x.implication).groups x.left
+is_ready is w x = left_at w x.implication == x.left && last_is_marked w.marks (implied_at is x.implication).groups x.left
 
 -- the node is marked, and wakes what waits for it
 abbrev pub after_mark : Work → ℕ → Work
@@ -75,7 +75,7 @@ pub record IsRight (is : List Implied) (w : Work) : Type 0 where
   pub nodes : (c : ℕ) → c < length is → (implied_at is c).node < length w.marks
   pub most : (c : ℕ) → c < length is → left_at w c ≤ length (implied_at is c).groups
   pub met : (c : ℕ) → c < length is → each_marked w.marks (drop (left_at w c) (implied_at is c).groups) ≡ true
-  pub sound : (others : List Bool) → IsClosed (length w.marks) (follows is) others → (n : ℕ) → is_marked w.marks n ≡ true → is_marked others n ≡ true
+  pub sound : (others : List Bool) → IsClosed (length w.marks) (is_implied is) others → (n : ℕ) → is_marked w.marks n ≡ true → is_marked others n ≡ true
 
 -- x waits at each node of the group without a mark, and was woken by each node with one.
 pub record WaitsAt (marks : List Bool) (waiting : List (List Waiting)) (woken : List Waiting) (group : List NodeId) (x : Waiting) : Type 0 where
@@ -110,7 +110,7 @@ pub record IsSameWork (v w : Work) : Type 0 where
 -- the implication can move on: the last of its groups that are left has a mark
 pub record IsReady (is : List Implied) (w : Work) (c : ℕ) : Type 0 where
   pub within : c < length is
-  pub marked : has_mark w.marks (implied_at is c).groups (left_at w c) ≡ true
+  pub marked : last_is_marked w.marks (implied_at is c).groups (left_at w c) ≡ true
 
 abbrev pub AreTended : List Implied → Work → Type 0
 AreTended is w = (c : ℕ) → c < length is → IsTended is w c

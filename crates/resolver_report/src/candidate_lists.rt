@@ -3,7 +3,7 @@
 ghost use Rattle.std.specs.Prelude.{◌≡◌, ◌++◌, IfOk, IfErr, OnOk};
 ghost use Rattle.std.specs.HashMap.{get};
 ghost use Rattle.resolver_report.specs.CandidateLists.{HasCandidateLists, candidates_for, root_candidates_of};
-ghost use Rattle.resolver_report.specs.Listed.{items_at};
+ghost use Rattle.resolver_report.specs.Listed.{optional_items};
 
 use crate::listed::extend_at;
 use resolver_clause_store::{By, Exhausted, Rule};
@@ -27,7 +27,7 @@ fn add_candidates<N, S: Copy + Eq + Hash + Drop>(
 ) -> Result<(), Exhausted>
     ensures root { OnOk result (by_root.new.items ≡ by_root.old.items ++ root_candidates_of rule.now) }
     ensures solvables { OnOk result ((s : S) →
-        items_at (get S.eq by_solvable.new s) ≡ items_at (get S.eq by_solvable.old s) ++ candidates_for S.eq s rule.now) }
+        optional_items (get S.eq by_solvable.new s) ≡ optional_items (get S.eq by_solvable.old s) ++ candidates_for S.eq s rule.now) }
     ensures memory { IfErr result (λ e. e ≡ Exhausted.Memory) }
 {
     match rule {

@@ -7,7 +7,7 @@ ghost use Rattle.resolver_report.specs.Marks.{installable as installable_in};
 ghost use Rattle.resolver_report.specs.Merging.{group_in, keys};
 ghost use Rattle.resolver_report.specs.Places.{HasPlaces};
 ghost use Rattle.resolver_report.specs.Simplified.{IsFoundAt, IsSimplified};
-ghost use Rattle.resolver_report.specs.Outlines.{groups_in, group_at};
+ghost use Rattle.resolver_report.specs.Outlines.{groups_in, group_of_node};
 
 use crate::graph::{ConflictGraph, ConflictNode};
 use crate::marks::installable;
@@ -77,7 +77,7 @@ fn groups_of<I: Interner>(
     groups: &HashMap<I::SolvableId, Rc<MergedConflictNode<I::SolvableId>>>,
 ) -> Result<Vec<Option<usize>>, Exhausted>
     requires { IsSimplified I.SolvableId.eq (I.universe interner.now) graph.now.graph groups.now }
-    ensures value { IfOk result (λ v. (n : ℕ) → group_at v.items n ≡ group_in (keys (I.universe interner.now) graph.now.graph) n) }
+    ensures value { IfOk result (λ v. (n : ℕ) → group_of_node v.items n ≡ group_in (keys (I.universe interner.now) graph.now.graph) n) }
     ensures memory { IfErr result (λ e. e ≡ Exhausted.Memory) }
 {
     let nodes = graph.graph.nodes();

@@ -4,7 +4,7 @@ ghost use Rattle.std.specs.Prelude.{◌≡◌, ◌<◌, All, IfOk, IfErr, OnOk, 
 ghost use Rattle.resolver_report.specs.EdgePlaces.{appended, lists_in};
 ghost use Rattle.resolver_report.specs.Implications.{HasLeastMarks, implied};
 ghost use Rattle.resolver_report.specs.WorkLists.{AreTended, IsRight, IsSameWork, advanced, after_mark, after_waits};
-ghost use Rattle.resolver_report.specs.WorkLists.{IsNextReady, has_mark as has_mark_in, is_ready as is_ready_in, left_at, up_to_unmarked as up_to_unmarked_in, work_view};
+ghost use Rattle.resolver_report.specs.WorkLists.{IsNextReady, is_ready as is_ready_in, last_is_marked as has_mark_in, left_at, up_to_unmarked as up_to_unmarked_in, work_view};
 
 use crate::graph::{NodeId, empty_lists, push_at};
 use crate::marks::some_marked;

@@ -2,7 +2,7 @@
 
 ghost use Rattle.std.specs.Prelude.{◌≡◌, ◌++◌, IfErr, OnOk};
 ghost use Rattle.std.specs.HashMap.{get};
-ghost use Rattle.resolver_report.specs.Listed.{items_at, items_if};
+ghost use Rattle.resolver_report.specs.Listed.{items_if, optional_items};
 
 use resolver_clause_store::Exhausted;
 use std::alloc::Global;
@@ -16,7 +16,7 @@ pub fn extend_at<K: Eq + Hash + Drop, T: Copy + Drop>(
     key: K,
     more: &[T],
 ) -> Result<(), Exhausted>
-    ensures added { OnOk result ((k : K) → items_at (get K.eq lists.new k) ≡ items_at (get K.eq lists.old k) ++ items_if (K.eq key k) more.now) }
+    ensures added { OnOk result ((k : K) → optional_items (get K.eq lists.new k) ≡ optional_items (get K.eq lists.old k) ++ items_if (K.eq key k) more.now) }
     ensures memory { IfErr result (λ e. e ≡ Exhausted.Memory) }
 {
     match lists.get_mut(&key) {

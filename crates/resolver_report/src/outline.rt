@@ -6,7 +6,7 @@ ghost use Rattle.resolver_clause_store.specs.Lists.{without_repeats};
 ghost use Rattle.resolver_report.specs.ConflictGraphs.{shape_of};
 ghost use Rattle.resolver_report.specs.EdgeRuns.{run_view};
 ghost use Rattle.resolver_report.specs.Messages.{is_unresolved as is_unresolved_in, is_viable as is_viable_in};
-ghost use Rattle.resolver_report.specs.Outlines.{HasGroupsOf, are_together, edges_told, group_at as group_at_in, groups_in, is_candidate_of, node_told, node_view, nodes_told, run_told, run_told_view, runs_told, runs_view, with_node};
+ghost use Rattle.resolver_report.specs.Outlines.{HasGroupsOf, are_together, edges_told, group_of_node as group_at_in, groups_in, is_candidate_of, node_told, node_view, nodes_told, run_told, run_told_view, runs_told, runs_view, with_node};
 
 use crate::graph::{ConflictGraph, ConflictNode, Edge, NodeId};
 use crate::marks::{is_marked, is_place, some_marked};

@@ -3,11 +3,14 @@
 ghost use Rattle.std.specs.Prelude.{Any, ◌≡◌, IfErr, IfOk, MatchOption, ◌∷◌, [], IfNone, IfSome, IsTrue, IsFalse, MatchBool, All};
 ghost use Rattle.resolver_clause_store.specs.Laws.{IsIdentity};
 ghost use Rattle.resolver_clause_store.specs.Lists.{HasNoRepeats};
-ghost use Rattle.resolver_clause_store.specs.Statements.{AllMeet, IsPresent, lists_of};
+ghost use Rattle.resolver_clause_store.specs.Statements.{AllMeet, IsPresent};
 ghost use Rattle.resolver_clause_store.specs.Rules.{AllNeeded, IsRefuted, Obeys};
-ghost use Rattle.resolver_report.specs.Plain.{BreaksSome, Clashes, HasTwo, IsAllowed, IsOnlyInstance, IsForbidden, IsMet, IsOpen, IsUnmet, HasNoOtherInstance};
+ghost use Rattle.resolver_clause_store.specs.NumberedLists.{items_of};
+ghost use Rattle.resolver_report.specs.Plain.{BreaksSome, Clashes, HasTwo, IsAllowed, IsOnlyInstance, IsBroken, MeetsRule, IsOpenRequirement};
+ghost use Rattle.resolver_report.specs.Plain.{IsUnmetRequirement};
+ghost use Rattle.resolver_report.specs.Plain.{HasNoOtherInstance};
 ghost use Rattle.resolver_report.specs.Plain.{HasOtherInstance};
-ghost use Rattle.resolver_report.specs.Searching.{IsChosen, IsSearching, IsStepFrom, Shows, search_work, untried_view, work_of_choice, work_with};
+ghost use Rattle.resolver_report.specs.Searching.{IsAfterChoice, IsExamined, IsSearching, IsStepFrom, search_work, untried_view, work_of_choice, work_with};
 
 use resolver_clause_store::{By, Exhausted, Rule, has, meets};
 use std::alloc::Global;
@@ -26,7 +29,7 @@ fn is_present<S: Eq>(by: &By<S>, set: &[S]) -> bool
 /// Whether the rule is a constraint, lock or exclusion that the set breaks.
 fn is_forbidden<N, S: Eq>(rule: &Rule<N, S>, set: &[S]) -> bool
     requires { IsIdentity S.eq }
-    ensures { MatchBool result (IsForbidden set.now rule.now) (IsAllowed set.now rule.now) }
+    ensures { MatchBool result (IsBroken set.now rule.now) (IsAllowed set.now rule.now) }
 {
     match rule {
         Rule::Requires { .. } | Rule::OnePerPackage { .. } => false,
@@ -39,7 +42,7 @@ fn is_forbidden<N, S: Eq>(rule: &Rule<N, S>, set: &[S]) -> bool
 /// Whether each of the lists has a member in the set.
 fn all_meet<S: Eq>(lists: &[Vec<S>], set: &[S]) -> bool
     requires { IsIdentity S.eq }
-    ensures { MatchBool result (AllMeet set.now (lists_of lists.now)) (AllMeet set.now (lists_of lists.now) → ⊥) }
+    ensures { MatchBool result (AllMeet set.now (items_of lists.now)) (AllMeet set.now (items_of lists.now) → ⊥) }
 {
     for list in lists {
         if !meets(list, set) {
@@ -53,7 +56,7 @@ fn all_meet<S: Eq>(lists: &[Vec<S>], set: &[S]) -> bool
 /// not.
 fn open_candidates<'a, N, S: Eq>(rule: &'a Rule<N, S>, set: &[S]) -> Option<&'a [S]>
     requires { IsIdentity S.eq }
-    ensures { MatchOption result (IsMet set.now rule.now) (λ wanted. IsUnmet set.now wanted.now rule.now) }
+    ensures { MatchOption result (MeetsRule set.now rule.now) (λ wanted. IsUnmetRequirement set.now wanted.now rule.now) }
 {
     match rule {
         Rule::Requires {
@@ -171,7 +174,7 @@ fn has_two<N: Eq, S: Eq>(rules: &[Rule<N, S>], set: &[S]) -> bool
 /// The candidates of the first requirement that is not met.
 fn first_open<'a, N, S: Eq>(rules: &'a [Rule<N, S>], set: &[S]) -> Option<&'a [S]>
     requires { IsIdentity S.eq }
-    ensures { MatchOption result (All (IsMet set.now) rules.now) (λ wanted. IsOpen set.now rules.now wanted.now) }
+    ensures { MatchOption result (All (MeetsRule set.now) rules.now) (λ wanted. IsOpenRequirement set.now rules.now wanted.now) }
 {
     for rule in rules {
         if let Some(candidates) = open_candidates(rule, set) {
@@ -195,7 +198,7 @@ enum Examined<'r, S> {
 fn examine<'r, N: Eq, S: Eq>(rules: &'r [Rule<N, S>], set: &[S]) -> Examined<'r, S>
     requires names { IsIdentity N.eq }
     requires solvables { IsIdentity S.eq }
-    ensures { Shows rules.now set.now result }
+    ensures { IsExamined rules.now set.now result }
 {
     if breaks_some(rules, set) {
         return Examined::Refuted;
@@ -234,7 +237,7 @@ fn enter<'r, N: Eq, S: Copy + Eq + Drop>(
 ) -> Result<Step, Exhausted>
     requires names { IsIdentity N.eq }
     requires solvables { IsIdentity S.eq }
-    requires chosen { IsChosen rules.now set.old.items (untried_view untried.old.items) }
+    requires chosen { IsAfterChoice rules.now set.old.items (untried_view untried.old.items) }
     ensures step { IfOk result (IsStepFrom S.eq rules.now set.new untried.new (work_of_choice S.eq rules.now set.old.items (untried_view untried.old.items))) }
     ensures memory { IfErr result (λ e. e ≡ Exhausted.Memory) }
 {

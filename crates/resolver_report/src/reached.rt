@@ -5,7 +5,7 @@ ghost use Rattle.std.specs.HashMap.{get};
 ghost use Rattle.indexmap.specs.IndexSet.{insert_all};
 ghost use Rattle.resolver_clause_store.specs.Laws.{IsIdentity};
 ghost use Rattle.resolver_report.specs.ReachedRules.{IsKept, LeavesJust, LeavesKept};
-ghost use Rattle.resolver_report.specs.Listed.{items_at};
+ghost use Rattle.resolver_report.specs.Listed.{optional_items};
 ghost use Rattle.resolver_report.specs.Reaching.{IsAbout, IsReachedSet};
 ghost use Rattle.resolver_clause_store.specs.Statements.{IsPresent};
 ghost use Rattle.resolver_clause_store.specs.Rules.{IsRefuted};
@@ -52,7 +52,7 @@ fn add_candidates_of<S: Copy + Eq + Hash + Drop>(
     candidate_lists: &CandidateLists<S>,
     solvable: S,
 ) -> Result<(), Exhausted>
-    ensures added { IfOk result (λ _. set.new.keys ≡ insert_all S.eq set.old.keys (items_at (get S.eq candidate_lists.now.by_solvable solvable))) }
+    ensures added { IfOk result (λ _. set.new.keys ≡ insert_all S.eq set.old.keys (optional_items (get S.eq candidate_lists.now.by_solvable solvable))) }
     ensures memory { IfErr result (λ e. e ≡ Exhausted.Memory) }
 {
     match candidate_lists.by_solvable.get(&solvable) {

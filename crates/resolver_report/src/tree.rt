@@ -6,7 +6,7 @@ ghost use Rattle.std.specs.Prelude.{string_bytes};
 ghost use Rattle.resolver_report.specs.Indents.{levels_in, Writes, WritesFirst, line_at};
 ghost use Rattle.resolver_report.specs.Messages.{excluded, constraint_line as constraint_line_in, is_reported as is_reported_in};
 ghost use Rattle.resolver_report.specs.Messages.{with_group, run_line};
-ghost use Rattle.resolver_report.specs.PendingTexts.{HasLevels, Tells, below_run as below_run_in, pending_text, pending_view};
+ghost use Rattle.resolver_report.specs.PendingTexts.{HasLevels, TellsPending, below_run as below_run_in, pending_text, pending_view};
 ghost use Rattle.resolver_report.specs.Outlines.{run_told_view, runs_view};
 ghost use Rattle.resolver_report.specs.Tellings.{IsOutline, IsToldNode, is_requires, verdict_rest, version_text_in, IsToldAt, constraint_lines, verdict_in, reason_in, candidate_text, runs_text, edges_text};
 ghost use Rattle.resolver_report.specs.Shapes.{solvable_at as solvable_at_place};
@@ -310,7 +310,7 @@ fn tell_run<'s, I: Interner>(
     requires levels { HasLevels pending.old }
     requires candidates { pending.old.candidates.now ≡ [] }
     requires runs { pending.old.runs.now ≡ run.now ∷ rest.now }
-    ensures step { OnOk result (Tells I.universe outline.now pending.old pending.new out.old out.new) }
+    ensures step { OnOk result (TellsPending I.universe outline.now pending.old pending.new out.old out.new) }
     ensures levels { OnOk result (HasLevels pending.new) }
     ensures memory { IfErr result (λ e. e ≡ Exhausted.Memory) }
 {
@@ -349,7 +349,7 @@ fn tell_node<'s, I: Interner>(
     requires candidates { pending.old.candidates.now ≡ n ∷ rest.now }
     requires deep { length pending.old.frames.items < pending.old.limit }
     requires node { IsToldNode I.universe outline.now pending.old.branch.items n.0 pending.old.reported.items node.now }
-    ensures step { OnOk result (Tells I.universe outline.now pending.old pending.new out.old out.new) }
+    ensures step { OnOk result (TellsPending I.universe outline.now pending.old pending.new out.old out.new) }
     ensures levels { OnOk result (HasLevels pending.new) }
     ensures memory { IfErr result (λ e. e ≡ Exhausted.Memory) }
 {
@@ -375,7 +375,7 @@ fn tell_candidate<'s, I: Interner>(
     requires outline { IsOutline I.universe outline.now I.SolvableId.eq }
     requires levels { HasLevels pending.old }
     requires candidates { pending.old.candidates.now ≡ n ∷ rest.now }
-    ensures step { OnOk result (Tells I.universe outline.now pending.old pending.new out.old out.new) }
+    ensures step { OnOk result (TellsPending I.universe outline.now pending.old pending.new out.old out.new) }
     ensures levels { OnOk result (HasLevels pending.new) }
     ensures memory { IfErr result (λ e. e ≡ Exhausted.Memory) }
 {
@@ -399,7 +399,7 @@ fn tell_next<'s, I: Interner>(
 ) -> Result<bool, Exhausted>
     requires outline { IsOutline I.universe outline.now I.SolvableId.eq }
     requires levels { HasLevels pending.old }
-    ensures step { IfOk result (λ more. IsTrue more → Tells I.universe outline.now pending.old pending.new out.old out.new) }
+    ensures step { IfOk result (λ more. IsTrue more → TellsPending I.universe outline.now pending.old pending.new out.old out.new) }
     ensures levels { IfOk result (λ more. IsTrue more → HasLevels pending.new) }
     ensures told { IfOk result (λ more. IsFalse more → pending_text I.universe outline.now (pending_view pending.old) ≡ []) }
     ensures same { IfOk result (λ more. IsFalse more → string_bytes out.new ≡ string_bytes out.old) }

@@ -27,10 +27,10 @@ use Rattle.resolvo.specs.declared.propagator.Propagator.{Propagator}
 use Rattle.resolver_clause_store.specs.declared.Watch.{Watch}
 use Rattle.resolver_clause_store.specs.declared.WatchedPair.{WatchedPair}
 use Rattle.resolver_clause_store.specs.declared.Watches.{Watches}
-use Rattle.resolvo.specs.Attaching.{AreApart, EndsWith, Forces, IsHigh, IsHighPair, IsLower, IsNotBefore, IsRising, Recalls, IsPairOf}
+use Rattle.resolvo.specs.Attaching.{AreDistinctLiterals, HasLast, Forces, IsHigh, IsHighPair, IsLower, IsNotFalseBefore, HasRisingLengths, Recalls, IsPairOf}
 use Rattle.resolvo.specs.Propagation.{IsJustified, IsUnit}
 use Rattle.resolver_clause_store.specs.Settled.{IsOpen}
-use Rattle.resolvo.specs.Propagators.{AreLate, AreWatched, Covers, IsConstant, IsExcused, IsNoted, IsPropagator, IsTrueAt, IsTrueBefore}
+use Rattle.resolvo.specs.Propagators.{AreLate, AreWatched, IsConstant, IsExcused, IsNoted, IsPropagator, IsTrueAt, IsTrueBefore, IsWatchInvariant}
 use Rattle.resolvo.specs.Propagators.{attached_of, head_of, late_of, pending_of}
 use Rattle.resolver_clause_store.specs.Watches.{FitClauses, FitsClause, HasLiteral, IsWatching, WatchesNothing, list_at, pair_at, unwatched}
 use Rattle.resolver_clause_store.specs.WatchesView.{lists_of, pairs_of}
@@ -60,7 +60,7 @@ propagator-grown table old new variables p watches size lists pairs grown it =
       pending = subst (λ (ps : List WatchedPair). All (λ n. n < length ps) (pending_of p)) (sym pairs) it.pending;
       inside = subst (λ (ps : List WatchedPair). All (λ (l : Late). l.number < length ps) (late_of p)) (sym pairs) it.inside;
       head = omega (arith, it.head, (keeps_all old new keeps).are);
-      covers = subst (λ (ps : List WatchedPair). Covers table new ps (late_of p) (pending_of p) (head_of p)) (sym pairs)
+      covers = subst (λ (ps : List WatchedPair). IsWatchInvariant table new ps (late_of p) (pending_of p) (head_of p)) (sym pairs)
           (covers-kept table old new _ _ _ _ keeps it.head it.covers);
     }
 
@@ -96,7 +96,7 @@ module _ (old new : List (List Literal)) (longer : length old ≤ length new)
       }
 
   covers-longer : (trail : Trail) (pairs : List WatchedPair) (late : List Late) (pending : List ℕ) (head : ℕ) → length pairs ≤ length old →
-      Covers old trail pairs late pending head → Covers new trail pairs late pending head
+      IsWatchInvariant old trail pairs late pending head → IsWatchInvariant new trail pairs late pending head
   covers-longer trail pairs late pending head short covers = record {
     watched = λ number literal watching fails. subst (λ (c : List Literal). Any (IsTrueAt trail fails.slot.level) c ⊎ IsNoted late pending number)
         (sym (same number (omega (arith, watching-inside pairs number literal watching, short)))) (covers.watched number literal watching fails);
@@ -132,8 +132,8 @@ late-fewer table old new late left gone is places within are =
     }
 
 covers-cut : (table : List (List Literal)) (old new : Trail) (pairs : List WatchedPair) (late left : List Late) (pending more : List ℕ) (head : ℕ) →
-    IsLower old new → ((number : ℕ) → IsNoted late pending number → IsNoted left more number) → Covers table old pairs late pending head →
-    Covers table new pairs left more (min head (length_of new))
+    IsLower old new → ((number : ℕ) → IsNoted late pending number → IsNoted left more number) → IsWatchInvariant table old pairs late pending head →
+    IsWatchInvariant table new pairs left more (min head (length_of new))
 covers-cut table old new pairs late left pending more head lower noted covers = record {
   watched = λ number literal watching fails.
       let was : IsFalseBefore old head literal =
@@ -185,7 +185,7 @@ ends {X} xs x at =
     subst Ended (get_or_from_slice_get xs (length xs - 1) x x at)
     (sym (take_all (length xs - 1 + 1) xs (omega (arith, below))) ∙ take_more xs (length xs - 1) x below)
 
-pub ends-with : (all : List ℕ) (number : ℕ) → EndsWith all number → all ≡ take (length all - 1) all ++ number ∷ []
+pub ends-with : (all : List ℕ) (number : ℕ) → HasLast all number → all ≡ take (length all - 1) all ++ number ∷ []
 ends-with all number e =
     let size : length (e.rest ++ number ∷ []) ≡ length e.rest + 1 = length-append e.rest (number ∷ []) in
     let Last : ℕ → List ℕ → Type 0 = λ n ns. slice_get ns n ≡ Some number in
@@ -232,26 +232,26 @@ moves-more old late last pending more moves = record {
 }
 
 -- if the last late clause was noted with few entries, so was each late clause before it
-within-last : (late : List Late) (last : Late) (count : ℕ) → IsRising (late ++ last ∷ []) → last.length ≤ count →
+within-last : (late : List Late) (last : Late) (count : ℕ) → HasRisingLengths (late ++ last ∷ []) → last.length ≤ count →
     All (λ (l : Late). l.length ≤ count) (late ++ last ∷ [])
 within-last late last count rising short = All-push (λ (l : Late). l.length ≤ count) late last (λ k d below.
     let at : slice_get (late ++ last ∷ []) k ≡ Some (get_or late k d) = place_left late (last ∷ []) k (get_or late k d) (slice_get-get_or late k d below) in
     omega (arith, rising k (length late) (get_or late k d) last below at (place_last late last), short)) short
 
-rising-left : (late gone : List Late) → IsRising (late ++ gone) → IsRising late
+rising-left : (late gone : List Late) → HasRisingLengths (late ++ gone) → HasRisingLengths late
 rising-left late gone rising =
     λ k n early later less at there. rising k n early later less (place_left late gone k early at) (place_left late gone n later there)
 
 pub moves-done : (old late : List Late) (last : Late) (pending more : List ℕ) (count : ℕ) → last.length ≤ count → Moves old (late ++ last ∷ []) pending more →
     Recalls old (late ++ last ∷ []) pending more count
 moves-done old late last pending more count short moves =
-    let within = λ (rising : IsRising old). within-last late last count
-    (rising-left (late ++ last ∷ []) moves.gone (subst (λ (ls : List Late). IsRising ls) moves.late rising)) short in
+    let within = λ (rising : HasRisingLengths old). within-last late last count
+    (rising-left (late ++ last ∷ []) moves.gone (subst (λ (ls : List Late). HasRisingLengths ls) moves.late rising)) short in
     search moves
 
 pub moves-all : (old late : List Late) (pending more : List ℕ) (count : ℕ) → length late ≤ 0 → Moves old late pending more → Recalls old late pending more count
 moves-all old late pending more count none moves =
-    let within : IsRising old → All (λ (l : Late). l.length ≤ count) late = λ rising k d below. absurd (omega (arith, below, none)) in
+    let within : HasRisingLengths old → All (λ (l : Late). l.length ≤ count) late = λ rising k d below. absurd (omega (arith, below, none)) in
     search moves
 
 -- a clause that is not pending any more
@@ -268,7 +268,7 @@ module _ (table : List (List Literal)) (trail : Trail) (pairs : List WatchedPair
     (less : lower ≤ head) (grown : (other : ℕ) → IsNoted late rest other → IsNoted left rest other) where
   covers-fewer : ((literal : Literal) → IsWatching pairs number literal → (fails : IsFalseBefore trail lower literal) →
       IsExcused table trail left rest fails.slot.level number) → (number < length pairs → WatchesNothing (pair_at pairs number) → IsNoted left rest number) →
-      Covers table trail pairs late (rest ++ number ∷ []) head → Covers table trail pairs left rest lower
+      IsWatchInvariant table trail pairs late (rest ++ number ∷ []) head → IsWatchInvariant table trail pairs left rest lower
   covers-fewer here constant covers = record {
     watched = λ other literal watching fails. ⊎_elim
         (λ (e : other ≡ number).
@@ -308,8 +308,8 @@ pub passed-high : (table : List (List Literal)) (trail : Trail) (p : Propagator)
 passed-high table trail p pending number ends pair satisfied it =
     let pairs = pairs_of p.watches in
     let all : All (λ n. n < attached_of p) (pending ++ number ∷ []) = subst (λ (ns : List ℕ). All (λ n. n < attached_of p) ns) ends it.pending in
-    let covers : Covers table trail pairs (late_of p) (pending ++ number ∷ []) (head_of p) =
-    subst (λ (ns : List ℕ). Covers table trail pairs (late_of p) ns (head_of p)) ends it.covers in
+    let covers : IsWatchInvariant table trail pairs (late_of p) (pending ++ number ∷ []) (head_of p) =
+    subst (λ (ns : List ℕ). IsWatchInvariant table trail pairs (late_of p) ns (head_of p)) ends it.covers in
     let fewer = all-fewer pending number (attached_of p) all in
     let covered = covers-fewer table trail pairs (late_of p) (late_of p) pending number (head_of p) (head_of p) (omega arith) (λ other noted. noted)
     (λ literal watching fails. ⊎_elim
@@ -332,8 +332,8 @@ passed-late table trail p late pending number ends is satisfied it =
     let inside : number < attached_of p =
     All-contains (λ n. n < attached_of p) (pending ++ number ∷ []) number all
     (Contains-append_right pending (number ∷ []) number (0, omega arith, refl)) in
-    let covers : Covers table trail pairs (late_of p) (pending ++ number ∷ []) (head_of p) =
-    subst (λ (ns : List ℕ). Covers table trail pairs (late_of p) ns (head_of p)) ends it.covers in
+    let covers : IsWatchInvariant table trail pairs (late_of p) (pending ++ number ∷ []) (head_of p) =
+    subst (λ (ns : List ℕ). IsWatchInvariant table trail pairs (late_of p) ns (head_of p)) ends it.covers in
     let longer : List Late = late_of p ++ made ∷ [] in
     let has : Contains longer made = Contains-append_right (late_of p) (made ∷ []) made (0, omega arith, refl) in
     let noted : IsNoted longer pending number = inl (has.0, made, has.1, has.2, refl) in
@@ -341,7 +341,7 @@ passed-late table trail p late pending number ends is satisfied it =
     let fewer = all-fewer pending number (attached_of p) all in
     let attached = subst (λ (ls : List Late). All (λ (l : Late). l.number < attached_of p) ls) (sym is)
     (All-push (λ (l : Late). l.number < attached_of p) (late_of p) made it.inside inside) in
-    let covered = subst (λ (ls : List Late). Covers table trail pairs ls pending (head_of p)) (sym is)
+    let covered = subst (λ (ls : List Late). IsWatchInvariant table trail pairs ls pending (head_of p)) (sym is)
     (covers-fewer table trail pairs (late_of p) longer pending number (head_of p) (head_of p) (omega arith)
     (λ other was. ⊎_elim
     (λ (one : Any (λ (l : Late). l.number ≡ other) (late_of p)).
@@ -357,21 +357,21 @@ passed-late table trail p late pending number ends is satisfied it =
 -- a clause with two literals without a value
 pub reopened : (table : List (List Literal)) (trail : Trail) (p : Propagator) (pending : List ℕ) (number head first second : ℕ) →
     pending_of p ≡ pending ++ number ∷ [] → head ≡ min (min p.head first) second →
-    IsNotBefore trail first (pair_at (pairs_of p.watches) number).first → IsNotBefore trail second (pair_at (pairs_of p.watches) number).second →
+    IsNotFalseBefore trail first (pair_at (pairs_of p.watches) number).first → IsNotFalseBefore trail second (pair_at (pairs_of p.watches) number).second →
     IsOpen trail (clause_at table number) → IsPropagator table trail p → IsPropagator table trail (record p { pending = pending; head = head })
 reopened table trail p pending number head first second ends is first_place second_place free it =
     let pairs = pairs_of p.watches in
     let all : All (λ n. n < attached_of p) (pending ++ number ∷ []) = subst (λ (ns : List ℕ). All (λ n. n < attached_of p) ns) ends it.pending in
-    let covers : Covers table trail pairs (late_of p) (pending ++ number ∷ []) (head_of p) =
-    subst (λ (ns : List ℕ). Covers table trail pairs (late_of p) ns (head_of p)) ends it.covers in
+    let covers : IsWatchInvariant table trail pairs (late_of p) (pending ++ number ∷ []) (head_of p) =
+    subst (λ (ns : List ℕ). IsWatchInvariant table trail pairs (late_of p) ns (head_of p)) ends it.covers in
     let fewer = all-fewer pending number (attached_of p) all in
     let reached : head ≤ length_of trail = omega (arith, is, it.head) in
     let covered = covers-fewer table trail pairs (late_of p) (late_of p) pending number (head_of p) head (omega (arith, is)) (λ other noted. noted)
     (λ literal watching fails. ⊎_elim
     (λ (e : (pair_at pairs number).first ≡ literal). absurd
-    (omega (arith, subst (λ (l : Literal). IsNotBefore trail first l) e first_place fails.slot fails.is fails.false_there, fails.earlier, is)))
+    (omega (arith, subst (λ (l : Literal). IsNotFalseBefore trail first l) e first_place fails.slot fails.is fails.false_there, fails.earlier, is)))
     (λ (e : (pair_at pairs number).second ≡ literal). absurd
-    (omega (arith, subst (λ (l : Literal). IsNotBefore trail second l) e second_place fails.slot fails.is fails.false_there, fails.earlier, is)))
+    (omega (arith, subst (λ (l : Literal). IsNotFalseBefore trail second l) e second_place fails.slot fails.is fails.false_there, fails.earlier, is)))
     watching.is)
     (λ inside none. absurd (free.differ (it.watched.constant number inside none free.first free.second free.has_first free.has_second)))
     covers in
@@ -402,7 +402,7 @@ module _ (pairs : List WatchedPair) (pair : WatchedPair) where
       (cases_lt number (length pairs))
 
   covers-push : (table : List (List Literal)) (trail : Trail) (late : List Late) (pending : List ℕ) (head : ℕ) →
-      Covers table trail pairs late pending head → Covers table trail longer late (pending ++ length pairs ∷ []) head
+      IsWatchInvariant table trail pairs late pending head → IsWatchInvariant table trail longer late (pending ++ length pairs ∷ []) head
   covers-push table trail late pending head covers =
       let grown : (number : ℕ) → IsNoted late pending number → IsNoted late (pending ++ length pairs ∷ []) number =
       λ number noted. ⊎_elim (λ (one : Any (λ (l : Late). l.number ≡ number) late). inl one) (λ (again : Contains pending number).
@@ -493,20 +493,20 @@ attached-added table clause trail p watches pending pair binary pairs lists fit 
           (omega (arith, long)));
       inside = λ k d below. omega (arith, it.inside k d below, long);
       head = it.head;
-      covers = subst (λ (ns : List ℕ). Covers more trail (pairs_of watches) (late_of p) ns (head_of p)) (sym is)
-          (subst (λ (ps : List WatchedPair). Covers more trail ps (late_of p) (pending_of p ++ attached_of p ∷ []) (head_of p)) (sym pairs)
+      covers = subst (λ (ns : List ℕ). IsWatchInvariant more trail (pairs_of watches) (late_of p) ns (head_of p)) (sym is)
+          (subst (λ (ps : List WatchedPair). IsWatchInvariant more trail ps (late_of p) (pending_of p ++ attached_of p ∷ []) (head_of p)) (sym pairs)
           (covers-push before pair more trail (late_of p) (pending_of p) (head_of p) covers));
     }
 
 -- the last pending clause is attached
-pub last-inside : (table : List (List Literal)) (trail : Trail) (p : Propagator) (number : ℕ) → EndsWith (pending_of p) number →
+pub last-inside : (table : List (List Literal)) (trail : Trail) (p : Propagator) (number : ℕ) → HasLast (pending_of p) number →
     IsPropagator table trail p → number < attached_of p
 last-inside table trail p number e it =
     let has : Contains (pending_of p) number =
     subst (λ (ns : List ℕ). Contains ns number) (sym e.is) (Contains-append_right e.rest (number ∷ []) number (0, omega arith, refl)) in
     All-contains (λ n. n < attached_of p) (pending_of p) number it.pending has
 
-pub last-within : (table : List (List Literal)) (trail : Trail) (p : Propagator) (number : ℕ) → EndsWith (pending_of p) number →
+pub last-within : (table : List (List Literal)) (trail : Trail) (p : Propagator) (number : ℕ) → HasLast (pending_of p) number →
     IsPropagator table trail p → number < length table
 last-within table trail p number e it = omega (arith, last-inside table trail p number e it, it.watched.attached)
 

@@ -19,7 +19,7 @@ use Rattle.resolver_clause_store.proofs.FormulaLemmas.{clause_at-get_or, clause_
 use Rattle.resolver_clause_store.proofs.SlotLemmas.{none-from, slot-within}
 use Rattle.resolver_clause_store.proofs.TrailLemmas.{false-before, false_before-kept, gains-cases, keeps-gains, value-false}
 use Rattle.resolver_clause_store.specs.declared.Choice.{Choice}
-use Rattle.resolvo.specs.ClauseSearches.{Grows}
+use Rattle.resolvo.specs.ClauseSearches.{KeepsClauses}
 use Rattle.resolver_clause_store.specs.Decisions.{IsChoice}
 use Rattle.resolvo.specs.Sources.{Source}
 use Rattle.resolvo.specs.Derivations.{AreGiven, IsDerived, causes_at, causes_of, given_at, number_of}
@@ -29,16 +29,16 @@ use Rattle.resolvo.proofs.JustifiedLemmas.{chosen-kept}
 use Rattle.resolvo.proofs.LevelLemmas.{level-in}
 use Rattle.resolvo.proofs.SourceLemmas.{causes_at-last, causes_at-push, given_at-last, given_at-push, some_or_none}
 
-pub grows-push : (table : List (List Literal)) (clause : List Literal) → Grows table (table ++ clause ∷ [])
+pub grows-push : (table : List (List Literal)) (clause : List Literal) → KeepsClauses table (table ++ clause ∷ [])
 grows-push table clause = record { longer = simp length-append (omega arith); same = clause_at-push table clause }
 
 -- a property of clauses that stay holds in the longer table
-pub holds-grows : (old new : List (List Literal)) (values : ℕ → Bool) (numbers : List ℕ) → Grows old new → All (λ n. n < length old) numbers →
+pub holds-grows : (old new : List (List Literal)) (values : ℕ → Bool) (numbers : List ℕ) → KeepsClauses old new → All (λ n. n < length old) numbers →
     MakesTrue values new numbers → MakesTrue values old numbers
 holds-grows old new values numbers grows within holds =
     λ k d below. subst (λ clause. clause_true values clause ≡ true) (grows.same _ (within k d below)) (holds k d below)
 
-pub justified-grows : (old new : List (List Literal)) (trail : Trail) → Grows old new → IsJustified old trail → IsJustified new trail
+pub justified-grows : (old new : List (List Literal)) (trail : Trail) → KeepsClauses old new → IsJustified old trail → IsJustified new trail
 justified-grows old new trail grows justified = record {
   within = λ v s n at reason. omega (arith, justified.within v s n at reason, grows.longer);
   forced = λ v s n at reason. subst (λ clause. IsForcing trail s.place (record { variable = v; positive = s.value }) clause)
@@ -61,7 +61,7 @@ below-push variables table clause below here = λ n. ⊎_elim
     (cases_lt n (length table))
 
 -- the source of a drawn literal stays
-drawn-grows : (old new : List (List Literal)) (numbers : List ℕ) (clause : List Literal) → Grows old new → All (λ n. n < length old) numbers →
+drawn-grows : (old new : List (List Literal)) (numbers : List ℕ) (clause : List Literal) → KeepsClauses old new → All (λ n. n < length old) numbers →
     All (IsDrawn old numbers) clause → All (IsDrawn new numbers) clause
 drawn-grows old new numbers clause grows within drawn = λ k d below.
     let w = drawn k d below in
@@ -220,7 +220,7 @@ chosen-undone table requirements old new level chosen undone = record {
       search;
 }
 
-pub chosen-grows : (old new : List (List Literal)) (requirements : List StoredRequirement) (trail : Trail) → Grows old new →
+pub chosen-grows : (old new : List (List Literal)) (requirements : List StoredRequirement) (trail : Trail) → KeepsClauses old new →
     All (λ (requirement : StoredRequirement). requirement.number < length old) requirements → AreChosen old requirements trail →
     AreChosen new requirements trail
 chosen-grows old new requirements trail grows inside chosen = record {

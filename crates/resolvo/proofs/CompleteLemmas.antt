@@ -8,7 +8,7 @@ use Rattle.std.proofs.lemmas.Option.{none-some, same_Some, slice_get_within}
 use Rattle.std.proofs.lemmas.List.Elements.{All-contains}
 use Rattle.resolver_clause_store.specs.Formula.{clause_true, literal_true}
 use Rattle.resolver_clause_store.specs.Lists.{Meets}
-use Rattle.resolver_clause_store.specs.Statements.{lists_of, statement_of, IsPresent, AllMeet, ObeysAlone}
+use Rattle.resolver_clause_store.specs.Statements.{statement_of, IsPresent, AllMeet, ObeysAlone}
 use Rattle.resolver_clause_store.specs.Rules.{Obeys}
 use Rattle.resolver_clause_store.specs.Variables.{AreDistinct}
 use Rattle.resolver_clause_store.specs.declared.By.{By}
@@ -20,9 +20,9 @@ use Rattle.resolver_encoding.proofs.CodeLemmas.{digit_apart, pow_under}
 use Rattle.resolvo.proofs.LineLemmas.{some_at, kept_here, kept_there, kept_cases, in_marked, zip_at, bit_line}
 use Rattle.resolvo.proofs.LineLemmas.{bit_line_in, member_line, member_line_in, line_in, rule_of_line}
 use Rattle.resolver_encoding.specs.Codes.{bit}
-use Rattle.resolvo.specs.Minimal.{marked}
-use Rattle.resolvo.specs.RuleClauses.{Line, atom, plain, requirement_line, requirer_atoms, list_atoms, candidate_atoms, condition_lines, lines_of}
-use Rattle.resolvo.specs.RuleClauses.{all_lines, IsLiteralOf, IsClauseOf, HasCode, AreClausesOf, MakesMarkedTrue}
+use Rattle.resolvo.specs.Minimal.{only_marked}
+use Rattle.resolvo.specs.RuleClauses.{Line, line_atom, plain, requirement_line, requirer_atoms, list_atoms, candidate_atoms, condition_lines, rule_lines}
+use Rattle.resolvo.specs.RuleClauses.{all_lines, IsLiteralOf, IsClauseOfLine, HasCode, AreClausesOf, MakesMarkedTrue}
 use Rattle.resolvo.specs.declared.minimal.rule_clauses.Atom.{Atom}
 use Rattle.resolvo.specs.declared.minimal.rule_clauses.Proposition.{Proposition}
 use Rattle.resolvo.specs.declared.minimal.rule_clauses.Proposition.TheVariants.{Member, Listed, Bit}
@@ -30,6 +30,7 @@ use Rattle.resolver_clause_store.proofs.BoolLemmas.{beq-true}
 use Rattle.resolver_clause_store.proofs.ListLemmas.{Contains-at, Contains-here as here, Contains-map, Contains-none as none_in, Contains-there as there}
 use Rattle.resolvo.specs.declared.minimal.rule_clauses.RuleClause.{RuleClause}
 use Rattle.resolver_clause_store.proofs.ListLemmas.{AllZip-right}
+use Rattle.resolver_clause_store.specs.NumberedLists.{items_of}
 
 -- a variable stands for the proposition, and has this value
 pub record Holds {N S : Type 0} (propositions : List (Proposition N S)) (values : ℕ → Bool) (p : Proposition N S) (b : Bool) : Type 0 where
@@ -119,11 +120,11 @@ module _ {N S : Type 0} (propositions : List (Proposition N S)) (values : ℕ �
   some_list rule zero h = absurd h
   some_list rule (suc n) h = ⊎_elim
       (λ (before : Some_of (list_atoms rule n)). let w = some_list rule n before in (w.0, omega (arith, w.1), w.2))
-      (λ (last : Some_of (atom (Listed rule n) false ∷ [])). ⊎_elim
+      (λ (last : Some_of (line_atom (Listed rule n) false ∷ [])). ⊎_elim
       (λ (it : Is (Listed rule n) false). (n, omega arith, it))
       (λ (none : ⊥). absurd none)
       last)
-      (some_in_parts (list_atoms rule n) (atom (Listed rule n) false ∷ []) h)
+      (some_in_parts (list_atoms rule n) (line_atom (Listed rule n) false ∷ []) h)
 
   some_candidate : (candidates : List S) → Some_of (candidate_atoms candidates) → (s : S) × Contains candidates s × Is (Member s) true
   some_candidate [] h = absurd h
@@ -151,7 +152,7 @@ module _ {N S : Type 0} (propositions : List (Proposition N S)) (values : ℕ �
         absent
 
     -- a line with this atom alone leaves the solvable out
-    out_alone : (s : S) → Some_of (atom (Member s) false ∷ []) → Contains chosen s → ⊥
+    out_alone : (s : S) → Some_of (line_atom (Member s) false ∷ []) → Contains chosen s → ⊥
     out_alone s some inside = ⊎_elim
         (λ (out : Is (Member s) false). not_left_out s inside out)
         (λ (none : ⊥). none)
@@ -159,19 +160,19 @@ module _ {N S : Type 0} (propositions : List (Proposition N S)) (values : ℕ �
 
     -- each line of the rule at a place is true
     abbrev AreTrue : ℕ → ℕ → ℕ → Rule N S → Type 0
-    AreTrue width place code rule = (line : Line N S) → Contains (lines_of width place code rule) line → Some_of line.atoms
+    AreTrue width place code rule = (line : Line N S) → Contains (rule_lines width place code rule) line → Some_of line.atoms
 
     -- the variable of a list with a member in the set is true
     list_met : (place j : ℕ) (lists : List (Vec S Global)) → ((line : Line N S) → Contains (condition_lines place 0 lists) line → Some_of line.atoms) →
-        AllMeet chosen (lists_of lists) → j < length lists → Is (Listed place j) false → ⊥
+        AllMeet chosen (items_of lists) → j < length lists → Is (Listed place j) false → ⊥
     list_met place j lists are_true meet below out =
         let at = some_at lists j below in
         let met : Meets at.0.items chosen =
-        All-contains (λ xs. Meets xs chosen) (lists_of lists) at.0.items meet
+        All-contains (λ xs. Meets xs chosen) (items_of lists) at.0.items meet
         (Contains-map (λ (list : Vec S Global). list.items) lists at.0 (Contains-at lists j at.0 at.1)) in
         ⊎_elim
         (λ (absent : Is (Member met.shared) false). not_left_out met.shared met.in_second absent)
-        (λ (rest : Some_of (atom (Listed place j) true ∷ [])). ⊎_elim
+        (λ (rest : Some_of (line_atom (Listed place j) true ∷ [])). ⊎_elim
         (λ (on : Is (Listed place j) true). false≢true (one_value distinct (Listed place j) false true out on))
         (λ (none : ⊥). none)
         rest)
@@ -193,14 +194,14 @@ module _ {N S : Type 0} (propositions : List (Proposition N S)) (values : ℕ �
         (some_in_parts (requirer_atoms by) (list_atoms place (length when.items) ++ candidate_atoms candidates.items)
         (are_true first (here first (condition_lines place 0 when.items))))
     alone width place code (Constrains by version_set candidate) are_true = λ present inside.
-        let only : Line N S = plain place (requirer_atoms by ++ atom (Member candidate) false ∷ []) in
+        let only : Line N S = plain place (requirer_atoms by ++ line_atom (Member candidate) false ∷ []) in
         ⊎_elim
         (λ (absent : Some_of (requirer_atoms by)). not_absent by present absent)
-        (λ (rest : Some_of (atom (Member candidate) false ∷ [])). out_alone candidate rest inside)
-        (some_in_parts (requirer_atoms by) (atom (Member candidate) false ∷ []) (are_true only (here only [])))
-    alone width place code (Lock locked forbidden) are_true = λ inside. let only : Line N S = plain place (atom (Member forbidden) false ∷ []) in
+        (λ (rest : Some_of (line_atom (Member candidate) false ∷ [])). out_alone candidate rest inside)
+        (some_in_parts (requirer_atoms by) (line_atom (Member candidate) false ∷ []) (are_true only (here only [])))
+    alone width place code (Lock locked forbidden) are_true = λ inside. let only : Line N S = plain place (line_atom (Member forbidden) false ∷ []) in
         out_alone forbidden (are_true only (here only [])) inside
-    alone width place code (Excluded solvable reason) are_true = λ inside. let only : Line N S = plain place (atom (Member solvable) false ∷ []) in
+    alone width place code (Excluded solvable reason) are_true = λ inside. let only : Line N S = plain place (line_atom (Member solvable) false ∷ []) in
         out_alone solvable (are_true only (here only [])) inside
     alone width place code (OnePerPackage name instance) are_true = tt
 
@@ -209,7 +210,7 @@ module _ {N S : Type 0} (propositions : List (Proposition N S)) (values : ℕ �
         Is (Bit n i) (bit code i)
     bits_hold width place code n s are_true inside i below = ⊎_elim
         (λ (out : Is (Member s) false). absurd (not_left_out s inside out))
-        (λ (rest : Some_of (atom (Bit n i) (bit code i) ∷ [])). ⊎_elim
+        (λ (rest : Some_of (line_atom (Bit n i) (bit code i) ∷ [])). ⊎_elim
         (λ (on : Is (Bit n i) (bit code i)). on)
         (λ (none : ⊥). absurd none)
         rest)
@@ -229,7 +230,7 @@ module _ {N S : Type 0} (rules : List (Rule N S)) (propositions : List (Proposit
   lines_true : (place : ℕ) (rule : Rule N S) (code : ℕ) → slice_index_or marks place false ≡ true → slice_get rules place ≡ Some rule →
       slice_get are.codes place ≡ Some code → AreTrue propositions values are.distinct are.width place code rule
   lines_true place rule code mark at coded = λ line inside.
-      let w = AllZip-right (IsClauseOf propositions) clauses (all_lines are.width 0 rules are.codes) are.lines line
+      let w = AllZip-right (IsClauseOfLine propositions) clauses (all_lines are.width 0 rules are.codes) are.lines line
       (line_in are.width 0 rules are.codes place place rule code (omega arith) at coded line inside) in
       let same : w.0.rule ≡ place = w.2.rule ∙ rule_of_line are.width place code rule line inside in
       let Marked : ℕ → Type 0 = λ k. slice_index_or marks k false ≡ true in
@@ -238,7 +239,7 @@ module _ {N S : Type 0} (rules : List (Rule N S)) (propositions : List (Proposit
       slice_index_or marks clause.rule false ≡ true → clause_true values clause.literals.items ≡ true) clauses w.0 makes w.1 in
       some_holds propositions values w.0.literals.items line.atoms w.2.literals (truth (subst Marked (sym same) mark))
 
-  pub chosen_obeys : Obeys (members values propositions) (marked marks rules)
+  pub chosen_obeys : Obeys (members values propositions) (only_marked marks rules)
   chosen_obeys = record {
     each = λ rule inside.
         let w = in_marked marks rules rule inside in

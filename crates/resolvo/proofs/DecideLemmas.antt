@@ -13,8 +13,8 @@ use Rattle.resolver_clause_store.specs.declared.Rule.TheVariants.{Requires, Cons
 use Rattle.resolvo.proofs.CompleteLemmas.{members, chosen_obeys}
 use Rattle.resolvo.proofs.LineLemmas.{All-each, bit_line_from, member_line_from, line_from, rule_of_line}
 use Rattle.resolvo.proofs.SoundLemmas.{values_true}
-use Rattle.resolvo.specs.RuleClauses.{Line, atom, plain, requirement_line, requirer_atoms, list_atoms, candidate_atoms, condition_lines, lines_of}
-use Rattle.resolvo.specs.RuleClauses.{all_lines, IsLiteralOf, IsClauseOf, AreClausesOf, IsGuarded, DecideRules}
+use Rattle.resolvo.specs.RuleClauses.{Line, line_atom, plain, requirement_line, requirer_atoms, list_atoms, candidate_atoms, condition_lines, rule_lines}
+use Rattle.resolvo.specs.RuleClauses.{all_lines, IsLiteralOf, IsClauseOfLine, AreClausesOf, IsGuarded, DecideRules}
 use Rattle.resolvo.specs.declared.minimal.rule_clauses.Atom.{Atom}
 use Rattle.resolvo.specs.declared.minimal.rule_clauses.Proposition.{Proposition}
 use Rattle.resolvo.specs.declared.minimal.rule_clauses.Proposition.TheVariants.{Member}
@@ -28,7 +28,7 @@ AreGuarded (first ∷ []) = first.positive ≡ false
 AreGuarded (first ∷ second ∷ []) = first.positive ≡ false
 AreGuarded (first ∷ second ∷ third ∷ rest) = ⊥
 
-requirer_guarded : (N : Type 0) {S : Type 0} (by : By S) (s : S) → AreGuarded {N = N} (requirer_atoms by ++ atom (Member s) false ∷ [])
+requirer_guarded : (N : Type 0) {S : Type 0} (by : By S) (s : S) → AreGuarded {N = N} (requirer_atoms by ++ line_atom (Member s) false ∷ [])
 requirer_guarded N Root s = refl
 requirer_guarded N (Solvable t) s = refl
 
@@ -43,7 +43,7 @@ module _ {N S : Type 0} where
       (λ (none : Contains [] line). absurd (none_in line none))
       (cons_cases only [] line inside)
 
-  line_orderly : (width place code : ℕ) (rule : Rule N S) (line : Line N S) → Contains (lines_of width place code rule) line → IsOrderly line
+  line_orderly : (width place code : ℕ) (rule : Rule N S) (line : Line N S) → Contains (rule_lines width place code rule) line → IsOrderly line
   line_orderly width place code (Requires by requirement candidates when) line inside = λ plain_one.
       let first : Line N S = requirement_line place (requirer_atoms by ++ (list_atoms place (length when.items) ++ candidate_atoms candidates.items)) in
       let IsRequirement : Line N S → Bool = λ (l : Line N S). l.is_requirement in
@@ -53,9 +53,9 @@ module _ {N S : Type 0} where
       (λ (later : Contains (condition_lines place 0 when.items) line). let w = member_line_from place 0 when.items line later in subst Guarded w.is refl)
       (cons_cases first (condition_lines place 0 when.items) line inside)
   line_orderly width place code (Constrains by version_set candidate) line inside =
-      only_guarded (plain place (requirer_atoms by ++ atom (Member candidate) false ∷ [])) line (requirer_guarded N by candidate) inside
-  line_orderly width place code (Lock locked forbidden) line inside = only_guarded (plain place (atom (Member forbidden) false ∷ [])) line refl inside
-  line_orderly width place code (Excluded solvable reason) line inside = only_guarded (plain place (atom (Member solvable) false ∷ [])) line refl inside
+      only_guarded (plain place (requirer_atoms by ++ line_atom (Member candidate) false ∷ [])) line (requirer_guarded N by candidate) inside
+  line_orderly width place code (Lock locked forbidden) line inside = only_guarded (plain place (line_atom (Member forbidden) false ∷ [])) line refl inside
+  line_orderly width place code (Excluded solvable reason) line inside = only_guarded (plain place (line_atom (Member solvable) false ∷ [])) line refl inside
   line_orderly width place code (OnePerPackage name instance) line inside = λ plain_one.
       let w = bit_line_from place name instance code width line inside in
       let Guarded : Line N S → Type 0 = λ (l : Line N S). AreGuarded l.atoms in
@@ -86,16 +86,16 @@ clauses_decide names solvables same_names same_solvables rules propositions clau
   sound = λ marks set size obeys. values_true names solvables same_names same_solvables rules propositions clauses are marks set obeys;
   complete = λ marks values size makes refuted. refuted (members values propositions) (chosen_obeys rules propositions clauses are marks values makes);
   guarded = All-each (λ (clause : RuleClause). clause.is_requirement ≡ false → IsGuarded clause.literals.items) clauses (λ clause inside plain_one.
-      let w = AllZip-left (IsClauseOf propositions) clauses (all_lines are.width 0 rules are.codes) are.lines clause inside in
+      let w = AllZip-left (IsClauseOfLine propositions) clauses (all_lines are.width 0 rules are.codes) are.lines clause inside in
       let at = line_from are.width 0 rules are.codes w.0 w.1 in
       guarded_literals propositions clause.literals.items w.0.atoms w.2.literals
       (line_orderly are.width (0 + at.index) at.code at.rule w.0 at.inside (sym w.2.is_requirement ∙ plain_one)));
   places = All-each (λ (clause : RuleClause). clause.rule < length rules) clauses (λ clause inside.
-      let w = AllZip-left (IsClauseOf propositions) clauses (all_lines are.width 0 rules are.codes) are.lines clause inside in
+      let w = AllZip-left (IsClauseOfLine propositions) clauses (all_lines are.width 0 rules are.codes) are.lines clause inside in
       let at = line_from are.width 0 rules are.codes w.0 w.1 in
       let is_rule : clause.rule ≡ 0 + at.index = w.2.rule ∙ rule_of_line are.width (0 + at.index) at.code at.rule w.0 at.inside in
       omega (arith, is_rule, slice_get_within rules at.index at.rule at.at));
   below = All-each (λ (clause : RuleClause). IsBelow (length propositions) clause.literals.items) clauses (λ clause inside.
-      let w = AllZip-left (IsClauseOf propositions) clauses (all_lines are.width 0 rules are.codes) are.lines clause inside in
+      let w = AllZip-left (IsClauseOfLine propositions) clauses (all_lines are.width 0 rules are.codes) are.lines clause inside in
       literals_below propositions clause.literals.items w.0.atoms w.2.literals);
 }

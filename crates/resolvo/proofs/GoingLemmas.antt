@@ -39,7 +39,7 @@ use Rattle.resolver_encoding.proofs.PromiseLemmas.{finished_is_first}
 use Rattle.resolver_encoding.proofs.TrailLemmas.{same_before, same_origin}
 use Rattle.resolvo.specs.ClauseSearches.{IsConsistent, IsLoaded, KeepsTurn, SetsNone, StaysBookmarked, held_of, kept_of}
 use Rattle.resolvo.specs.ClauseSearches.{trail_of}
-use Rattle.resolvo.specs.RoundStates.{AreRounds, GoesOn, HasFollowed, IsAnswering, IsFollowing, IsSearchOf, IsStill, IsUpToDate, KeepsNear}
+use Rattle.resolvo.specs.RoundStates.{AreRounds, GoesOn, HasFollowed, IsAnswering, IsFollowingFrom, IsSearchOf, IsStill, IsUpToDate, KeepsNear}
 use Rattle.resolvo.specs.RoundStates.{chosen_of, notes_of}
 use Rattle.resolvo.specs.declared.clause_search.ClauseSearch.{ClauseSearch}
 use Rattle.resolvo.specs.declared.rounds.Rounds.{Rounds}
@@ -179,7 +179,7 @@ module _ {N S : Type 0} where
 
   -- one reading is a part of a turn
   module _ (u : Universe N S) (old mid : Rounds N S) (from : ℕ) (keys : List S) (encoding : Encoding N S) (up : IsUpToDate old)
-      (following : IsFollowing old mid from) (followed : HasFollowed old mid) (is : keys ≡ chosen_of mid)
+      (following : IsFollowingFrom old mid from) (followed : HasFollowed old mid) (is : keys ≡ chosen_of mid)
       (more : IsReadMore u keys (notes_of mid) (notes_in encoding))
       (reads : (root : Demands) → IsReadSoFar u root (take from keys) (notes_of mid) → IsReadSoFar u root keys (notes_in encoding))
       (near_after : (root : Demands) (seeds : List S) (packages : List N) → IsReadSoFar u root (take from keys) (notes_of mid) →

@@ -13,7 +13,7 @@ use Rattle.resolver_clause_store.specs.Slots.{is_decided}
 use Rattle.resolver_clause_store.specs.TrailView.{slot_of, length_of, Gains, IsSame}
 use Rattle.resolver_clause_store.specs.Outcomes.{IsForcing}
 use Rattle.resolver_clause_store.proofs.TrailLemmas.{Keeps, keeps-gains, false_before-kept, forcing-kept, false-before, gains-cases}
-use Rattle.resolvo.specs.Propagation.{IsUnit, IsJustified, AreChosen, Extends, IsDecidedFor}
+use Rattle.resolvo.specs.Propagation.{IsUnit, IsJustified, AreChosen, ExtendsTrail, IsDecidedFor}
 
 pub forcing-unit : (old new : Trail) (literal : Literal) (clause : List Literal) → Keeps old new → IsUnit old literal clause →
     IsForcing new (length_of old) literal clause
@@ -97,7 +97,7 @@ justified-same table old new justified same =
     }
 
 pub extends-gains : (old new : Trail) (literal : Literal) (level number : ℕ) → Gains old new literal level (Forced number) →
-    slot_of old literal.variable ≡ None → Extends old new
+    slot_of old literal.variable ≡ None → ExtendsTrail old new
 extends-gains old new literal level number gains free = record {
   kept = (keeps-gains old new literal level _ gains free).kept;
   only = λ v s at. ⊎_elim (λ w. inr (ap (λ (slot : Slot). is_decided slot.reason) w.1)) (λ w. inl w) (gains-cases old new literal level _ gains v s at);
@@ -111,7 +111,7 @@ chosen-kept table requirements old new variable slot keeps c =
     search c
 
 pub chosen-extends : (table : List (List Literal)) (requirements : List StoredRequirement) (old new : Trail) → AreChosen table requirements old →
-    Extends old new → AreChosen table requirements new
+    ExtendsTrail old new → AreChosen table requirements new
 chosen-extends table requirements old new chosen extends = record {
   each = λ v s n at decided. ⊎_elim
       (λ was. chosen-kept table requirements old new v s (record { kept = extends.kept }) (chosen.each v s n was decided))

@@ -10,9 +10,9 @@ use Rattle.std.proofs.lemmas.List.Elements.{Contains-push_cases}
 use Rattle.resolver_clause_store.specs.declared.Rule.{Rule}
 use Rattle.resolver_clause_store.specs.declared.Rule.TheVariants.{Requires, Constrains, Lock, Excluded, OnePerPackage}
 use Rattle.resolver_encoding.specs.Codes.{bit}
-use Rattle.resolvo.specs.Minimal.{marked}
-use Rattle.resolvo.specs.RuleClauses.{Line, atom, plain, requirement_line, requirer_atoms, list_atoms, candidate_atoms, member_lines, condition_lines}
-use Rattle.resolvo.specs.RuleClauses.{bit_lines, lines_of, all_lines}
+use Rattle.resolvo.specs.Minimal.{only_marked}
+use Rattle.resolvo.specs.RuleClauses.{Line, line_atom, plain, requirement_line, requirer_atoms, list_atoms, candidate_atoms, member_lines, condition_lines}
+use Rattle.resolvo.specs.RuleClauses.{bit_lines, rule_lines, all_lines}
 use Rattle.resolver_clause_store.proofs.ListLemmas.{Contains-cons_cases as cons_cases, Contains-here as here, Contains-map, Contains-map_back}
 use Rattle.resolver_clause_store.proofs.ListLemmas.{Contains-none as none_in, Contains-there as there}
 use Rattle.resolvo.specs.declared.minimal.rule_clauses.Proposition.TheVariants.{Member, Listed, Bit}
@@ -45,19 +45,20 @@ pub record StandsMarked {X : Type 0} (marks : List Bool) (xs : List X) (x : X) :
   pub at : slice_get xs place ≡ Some x
 
 pub marked_in : {X : Type 0} (marks : List Bool) (xs : List X) (k : ℕ) (x : X) → slice_index_or marks k false ≡ true → slice_get xs k ≡ Some x →
-    Contains (marked marks xs) x
+    Contains (only_marked marks xs) x
 marked_in [] xs k x mark at = absurd (false≢true mark)
 marked_in (b ∷ marks) [] k x mark at = absurd (none-some x at)
-marked_in (b ∷ marks) (y ∷ xs) zero x mark at = subst (Contains (marked (b ∷ marks) (y ∷ xs))) (same_Some y x at) (kept_here b y (marked marks xs) mark)
-marked_in (b ∷ marks) (y ∷ xs) (suc k) x mark at = kept_there b y (marked marks xs) x (marked_in marks xs k x mark at)
+marked_in (b ∷ marks) (y ∷ xs) zero x mark at = subst (Contains (only_marked (b ∷ marks) (y ∷ xs))) (same_Some y x at)
+    (kept_here b y (only_marked marks xs) mark)
+marked_in (b ∷ marks) (y ∷ xs) (suc k) x mark at = kept_there b y (only_marked marks xs) x (marked_in marks xs k x mark at)
 
-pub in_marked : {X : Type 0} (marks : List Bool) (xs : List X) (x : X) → Contains (marked marks xs) x → StandsMarked marks xs x
+pub in_marked : {X : Type 0} (marks : List Bool) (xs : List X) (x : X) → Contains (only_marked marks xs) x → StandsMarked marks xs x
 in_marked [] xs x h = absurd (none_in x h)
 in_marked (b ∷ marks) [] x h = absurd (none_in x h)
 in_marked (b ∷ marks) (y ∷ xs) x h = ⊎_elim
     (λ (first : (b ≡ true) × (y ≡ x)). record { place = zero; mark = first.0; at = ap Some first.1 })
-    (λ (later : Contains (marked marks xs) x). let w = in_marked marks xs x later in record { place = suc w.place; mark = w.mark; at = w.at })
-    (kept_cases b y (marked marks xs) x h)
+    (λ (later : Contains (only_marked marks xs) x). let w = in_marked marks xs x later in record { place = suc w.place; mark = w.mark; at = w.at })
+    (kept_cases b y (only_marked marks xs) x h)
 
 pub zip_at : {A B : Type 0} (R : A → B → Type 0) (xs : List A) (ys : List B) → AllZip R xs ys → (k : ℕ) (x : A) → slice_get xs k ≡ Some x → (y : B) ×
     (slice_get ys k ≡ Some y) × R x y
@@ -72,10 +73,10 @@ zip_both R xs ys h k x y at to = let w = zip_at R xs ys h k x at in subst (R x) 
 
 -- the line of a bit, and of a member of a list
 abbrev pub bit_line : {N S : Type 0} → ℕ → N → S → ℕ → ℕ → Line N S
-bit_line rule name instance code i = plain rule (atom (Member instance) false ∷ atom (Bit name i) (bit code i) ∷ [])
+bit_line rule name instance code i = plain rule (line_atom (Member instance) false ∷ line_atom (Bit name i) (bit code i) ∷ [])
 
 abbrev pub member_line : {N S : Type 0} → ℕ → ℕ → S → Line N S
-member_line rule list s = plain rule (atom (Member s) false ∷ atom (Listed rule list) true ∷ [])
+member_line rule list s = plain rule (line_atom (Member s) false ∷ line_atom (Listed rule list) true ∷ [])
 
 pub bit_line_in : {N S : Type 0} (rule : ℕ) (name : N) (instance : S) (code n i : ℕ) → i < n →
     Contains (bit_lines rule name instance code n) (bit_line rule name instance code i)
@@ -144,21 +145,21 @@ pub record IsLineAt {N S : Type 0} (width from : ℕ) (rules : List (Rule N S)) 
   pub code : ℕ
   pub at : slice_get rules index ≡ Some rule
   pub coded : slice_get codes index ≡ Some code
-  pub inside : Contains (lines_of width (from + index) code rule) line
+  pub inside : Contains (rule_lines width (from + index) code rule) line
 
 pub line_in : {N S : Type 0} (width from : ℕ) (rules : List (Rule N S)) (codes : List ℕ) (k place : ℕ) (rule : Rule N S) (code : ℕ) → place ≡ from + k →
-    slice_get rules k ≡ Some rule → slice_get codes k ≡ Some code → (line : Line N S) → Contains (lines_of width place code rule) line →
+    slice_get rules k ≡ Some rule → slice_get codes k ≡ Some code → (line : Line N S) → Contains (rule_lines width place code rule) line →
     Contains (all_lines width from rules codes) line
 line_in width from [] codes k place rule code is at coded line h = absurd (none-some rule at)
 line_in width from (r ∷ rules) [] k place rule code is at coded line h = absurd (none-some code coded)
 line_in {N} {S} width from (r ∷ rules) (c ∷ codes) zero place rule code is at coded line h =
     let same : place ≡ from = omega (arith, is) in
-    let Has : ℕ → ℕ → Rule N S → Type 0 = λ p d q. Contains (lines_of width p d q) line in
+    let Has : ℕ → ℕ → Rule N S → Type 0 = λ p d q. Contains (rule_lines width p d q) line in
     let with_place : Has from code rule = subst (λ p. Has p code rule) same h in
     let with_code : Has from c rule = subst (λ d. Has from d rule) (sym (same_Some c code coded)) with_place in
-    Contains-append_left (lines_of width from c r) (all_lines width (suc from) rules codes) line (subst (Has from c) (sym (same_Some r rule at)) with_code)
+    Contains-append_left (rule_lines width from c r) (all_lines width (suc from) rules codes) line (subst (Has from c) (sym (same_Some r rule at)) with_code)
 line_in width from (r ∷ rules) (c ∷ codes) (suc k) place rule code is at coded line h =
-    Contains-append_right (lines_of width from c r) (all_lines width (suc from) rules codes) line
+    Contains-append_right (rule_lines width from c r) (all_lines width (suc from) rules codes) line
     (line_in width (suc from) rules codes k place rule code (omega (arith, is)) at coded line h)
 
 pub line_from : {N S : Type 0} (width from : ℕ) (rules : List (Rule N S)) (codes : List ℕ) (line : Line N S) →
@@ -166,16 +167,16 @@ pub line_from : {N S : Type 0} (width from : ℕ) (rules : List (Rule N S)) (cod
 line_from width from [] codes line h = absurd (none_in line h)
 line_from width from (r ∷ rules) [] line h = absurd (none_in line h)
 line_from {N} {S} width from (r ∷ rules) (c ∷ codes) line h =
-    let Has : ℕ → ℕ → Rule N S → Type 0 = λ p d q. Contains (lines_of width p d q) line in
+    let Has : ℕ → ℕ → Rule N S → Type 0 = λ p d q. Contains (rule_lines width p d q) line in
     ⊎_elim
-    (λ (now : Contains (lines_of width from c r) line).
+    (λ (now : Contains (rule_lines width from c r) line).
     let same : from ≡ from + zero = omega arith in
     record { index = zero; rule = r; code = c; at = refl; coded = refl; inside = subst (λ p. Has p c r) same now })
     (λ (later : Contains (all_lines width (suc from) rules codes) line).
     let w = line_from width (suc from) rules codes line later in
     let same : suc from + w.index ≡ from + suc w.index = omega arith in
     record { index = suc w.index; rule = w.rule; code = w.code; at = w.at; coded = w.coded; inside = subst (λ p. Has p w.code w.rule) same w.inside })
-    (Contains-append_cases (lines_of width from c r) (all_lines width (suc from) rules codes) line h)
+    (Contains-append_cases (rule_lines width from c r) (all_lines width (suc from) rules codes) line h)
 
 -- the line belongs to the rule at the place
 only_one : {N S : Type 0} (place : ℕ) (only line : Line N S) → only.rule ≡ place → Contains (only ∷ []) line → line.rule ≡ place
@@ -184,7 +185,7 @@ only_one {N} {S} place only line is h = ⊎_elim
     (λ (none : Contains [] line). absurd (none_in line none))
     (cons_cases only [] line h)
 
-pub rule_of_line : {N S : Type 0} (width place code : ℕ) (rule : Rule N S) (line : Line N S) → Contains (lines_of width place code rule) line →
+pub rule_of_line : {N S : Type 0} (width place code : ℕ) (rule : Rule N S) (line : Line N S) → Contains (rule_lines width place code rule) line →
     line.rule ≡ place
 rule_of_line {N} {S} width place code (Requires by requirement candidates when) line h =
     let Of : Line N S → ℕ = λ (l : Line N S). l.rule in
@@ -194,8 +195,8 @@ rule_of_line {N} {S} width place code (Requires by requirement candidates when) 
     (λ (later : Contains (condition_lines place 0 when.items) line). sym (ap Of (member_line_from place 0 when.items line later).is))
     (cons_cases first (condition_lines place 0 when.items) line h)
 rule_of_line width place code (Constrains by version_set candidate) line h =
-    only_one place (plain place (requirer_atoms by ++ atom (Member candidate) false ∷ [])) line refl h
-rule_of_line width place code (Lock locked forbidden) line h = only_one place (plain place (atom (Member forbidden) false ∷ [])) line refl h
-rule_of_line width place code (Excluded solvable reason) line h = only_one place (plain place (atom (Member solvable) false ∷ [])) line refl h
+    only_one place (plain place (requirer_atoms by ++ line_atom (Member candidate) false ∷ [])) line refl h
+rule_of_line width place code (Lock locked forbidden) line h = only_one place (plain place (line_atom (Member forbidden) false ∷ [])) line refl h
+rule_of_line width place code (Excluded solvable reason) line h = only_one place (plain place (line_atom (Member solvable) false ∷ [])) line refl h
 rule_of_line {N} {S} width place code (OnePerPackage name instance) line h = let Of : Line N S → ℕ = λ (l : Line N S). l.rule in
     sym (ap Of (bit_line_from place name instance code width line h).2)

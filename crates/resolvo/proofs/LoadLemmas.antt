@@ -24,11 +24,11 @@ use Rattle.resolver_clause_store.proofs.TrailLemmas.{Keeps, forcing-kept}
 use Rattle.resolvo.specs.Sources.{Source}
 use Rattle.resolvo.specs.Sources.{given_as}
 use Rattle.resolvo.specs.declared.clause_search.ClauseSearch.{ClauseSearch}
-use Rattle.resolvo.specs.ClauseSearches.{AreLoaded, IsConsistent, IsLoaded, IsSameProblem, IsSameSearch, KeepsFirst, learnt_count_of, numbers_of, place_of, stored_places}
+use Rattle.resolvo.specs.ClauseSearches.{AreLoaded, IsConsistent, IsLoaded, IsSameProblem, IsSameSearch, KeepsFirst, given_place, learnt_count_of, numbers_of, stored_places}
 use Rattle.resolvo.specs.Derivations.{IsDerived, given_at, number_of}
 use Rattle.resolvo.specs.Propagators.{IsPropagator}
 use Rattle.resolvo.specs.declared.propagator.Propagator.{Propagator}
-use Rattle.resolvo.specs.Propagation.{AreChosen, AssumesNone, Extends, IsDecidedFor, IsJustified}
+use Rattle.resolvo.specs.Propagation.{AreChosen, AssumesNone, ExtendsTrail, IsDecidedFor, IsJustified}
 use Rattle.resolvo.specs.WatchedClauses.{AreInLists}
 use Rattle.resolver_clause_store.specs.Settled.{AllSettled}
 use Rattle.resolvo.proofs.ClauseSearchLemmas.{below-push, chosen-grows, chosen-undone, derived-push, grows-push, implied, justified-grows, justified-undone}
@@ -73,16 +73,16 @@ loaded-learnt given table sources places clause source size learnt loaded = reco
 -- one more given clause
 placed-push : (given table : List (List Literal)) (sources : List Source) (places : List ℕ) → length sources ≡ length table →
     AreLoaded given table sources places → (n : ℕ) → n < length given + 1 →
-    given_at (sources ++ given_as (length places) ∷ []) (place_of (places ++ length table ∷ []) n) ≡ Some n
+    given_at (sources ++ given_as (length places) ∷ []) (given_place (places ++ length table ∷ []) n) ≡ Some n
 placed-push given table sources places size loaded n less = ⊎_elim
     (λ (early : n < length given).
     let at = loaded.placed n early in
-    let same : place_of (places ++ length table ∷ []) n ≡ place_of places n =
+    let same : given_place (places ++ length table ∷ []) n ≡ given_place places n =
     get_or-append places (length table ∷ []) 0 n (omega (arith, early, loaded.count)) in
     ap (λ p. given_at (sources ++ given_as (length places) ∷ []) p) same ∙ given_at-push sources _ _ (given_within sources _ n at) ∙ at)
     (λ (late : length given ≤ n).
     let here : n ≡ length places = omega (arith, late, loaded.count) in
-    let same : place_of (places ++ length table ∷ []) n ≡ length sources = get_or_push places (length table) 0 n (sym here) ∙ sym size in
+    let same : given_place (places ++ length table ∷ []) n ≡ length sources = get_or_push places (length table) 0 n (sym here) ∙ sym size in
     ap (λ p. given_at (sources ++ given_as (length places) ∷ []) p) same ∙ given_at-last sources _ ∙ ap Some (sym here))
     (cases_lt n (length given))
 
@@ -117,36 +117,36 @@ map-agree f h [] all = refl
 map-agree f h (x ∷ xs) all = λ i. All-head (λ y. f y ≡ h y) x xs all i ∷ map-agree f h xs (All-tail (λ y. f y ≡ h y) x xs all) i
 
 pub places-push : (places numbers : List ℕ) (place bound : ℕ) → bound ≡ length places → All (λ n. n < bound) numbers →
-    map (place_of (places ++ place ∷ [])) numbers ≡ map (place_of places) numbers
+    map (given_place (places ++ place ∷ [])) numbers ≡ map (given_place places) numbers
 places-push places numbers place bound size inside =
     map-agree _ _ numbers (λ k d below. get_or-append places (place ∷ []) 0 _ (omega (arith, inside k d below)))
 
 -- one more requirement
 pub requirements-push : (requirements : List StoredRequirement) (places numbers : List ℕ) (requirement : StoredRequirement) (number : ℕ) →
-    stored_places requirements ≡ map (place_of places) numbers → requirement.number ≡ place_of places number →
-    stored_places (requirements ++ requirement ∷ []) ≡ map (place_of places) (numbers ++ number ∷ [])
+    stored_places requirements ≡ map (given_place places) numbers → requirement.number ≡ given_place places number →
+    stored_places (requirements ++ requirement ∷ []) ≡ map (given_place places) (numbers ++ number ∷ [])
 requirements-push requirements places numbers requirement number same here = map_push (λ (r : StoredRequirement). r.number) requirements requirement ∙
-    (λ i. same i ++ here i ∷ []) ∙ sym (map_push (place_of places) numbers number)
+    (λ i. same i ++ here i ∷ []) ∙ sym (map_push (given_place places) numbers number)
 
 -- there are as many requirements in the search as were given
 same-length : (requirements : List StoredRequirement) (wanted : List RequirementClause) (places : List ℕ) →
-    stored_places requirements ≡ map (place_of places) (numbers_of wanted) → length requirements ≡ length wanted
+    stored_places requirements ≡ map (given_place places) (numbers_of wanted) → length requirements ≡ length wanted
 same-length requirements wanted places same = sym (length-map requirements (λ (r : StoredRequirement). r.number)) ∙ ap length same ∙
-    length-map (numbers_of wanted) (place_of places) ∙ length-map wanted (λ (r : RequirementClause). r.number)
+    length-map (numbers_of wanted) (given_place places) ∙ length-map wanted (λ (r : RequirementClause). r.number)
 
 same-number : (requirements : List StoredRequirement) (wanted : List RequirementClause) (places : List ℕ) →
-    stored_places requirements ≡ map (place_of places) (numbers_of wanted) → (k : ℕ) (d : StoredRequirement) (e : RequirementClause) → k < length wanted →
-    (get_or requirements k d).number ≡ place_of places (get_or wanted k e).number
+    stored_places requirements ≡ map (given_place places) (numbers_of wanted) → (k : ℕ) (d : StoredRequirement) (e : RequirementClause) → k < length wanted →
+    (get_or requirements k d).number ≡ given_place places (get_or wanted k e).number
 same-number requirements wanted places same k d e below =
     let number = λ (r : RequirementClause). r.number in
     let size = same-length requirements wanted places same in
     let inside : k < length (numbers_of wanted) = omega (arith, below, length-map wanted number) in
     sym (get_or-map (λ (r : StoredRequirement). r.number) requirements k d 0 (omega (arith, below, size))) ∙ ap (λ ns. get_or ns k 0) same ∙
-    get_or-map (place_of places) (numbers_of wanted) k 0 0 inside ∙ ap (λ n. place_of places n) (get_or-map number wanted k e 0 below)
+    get_or-map (given_place places) (numbers_of wanted) k 0 0 inside ∙ ap (λ n. given_place places n) (get_or-map number wanted k e 0 below)
 
 -- the clause of a requirement at its place
 given-clause : (given table : List (List Literal)) (sources : List Source) (places : List ℕ) (number : ℕ) → AreLoaded given table sources places →
-    number < length given → clause_at table (place_of places number) ≡ clause_at given number
+    number < length given → clause_at table (given_place places number) ≡ clause_at given number
 given-clause given table sources places number loaded inside = loaded.are.same _ number (loaded.placed number inside)
 
 -- some element of a list that is not empty
@@ -156,13 +156,13 @@ some-of (r ∷ rest) k below = r
 
 chosen-wanted : (given table : List (List Literal)) (sources : List Source) (places : List ℕ) (requirements : List StoredRequirement)
     (wanted : List RequirementClause) (trail : Trail) (variable : ℕ) (slot : Slot) → AreLoaded given table sources places →
-    stored_places requirements ≡ map (place_of places) (numbers_of wanted) → All (λ (r : RequirementClause). r.number < length given) wanted →
+    stored_places requirements ≡ map (given_place places) (numbers_of wanted) → All (λ (r : RequirementClause). r.number < length given) wanted →
     IsDecidedFor table requirements trail variable slot → IsChosen given wanted trail variable slot
 chosen-wanted given table sources places requirements wanted trail variable slot loaded same inside c =
     let k = c.listed.0 in
     let below : k < length wanted = omega (arith, c.listed.1, same-length requirements wanted places same) in
     let some = some-of wanted k below in
-    let number : place_of places (get_or wanted k some).number ≡ c.requirement.number =
+    let number : given_place places (get_or wanted k some).number ≡ c.requirement.number =
     sym (same-number requirements wanted places same k c.requirement some below) ∙ ap (λ (r : StoredRequirement). r.number) c.listed.2 in
     let clause = sym (given-clause given table sources places _ loaded (inside k some below)) ∙ ap (λ n. clause_at table n) number ∙ c.clause in
     search (Contains-get_or wanted k some below)
@@ -170,7 +170,7 @@ chosen-wanted given table sources places requirements wanted trail variable slot
 -- a search that is finished over the table is finished over the given clauses
 pub finished : (given table : List (List Literal)) (sources : List Source) (places : List ℕ) (requirements : List StoredRequirement)
     (wanted : List RequirementClause) (trail : Trail) → IsDerived table sources → IsJustified table trail → AreChosen table requirements trail →
-    AreLoaded given table sources places → stored_places requirements ≡ map (place_of places) (numbers_of wanted) →
+    AreLoaded given table sources places → stored_places requirements ≡ map (given_place places) (numbers_of wanted) →
     All (λ (r : RequirementClause). r.number < length given) wanted → AllSettled trail table →
     All (λ (r : StoredRequirement). IsMet trail (clause_at table r.number)) requirements → IsFinished given wanted trail
 finished given table sources places requirements wanted trail derived justified chosen loaded same inside settled met = record {
@@ -189,7 +189,7 @@ finished given table sources places requirements wanted trail derived justified 
   propagated = λ n within.
       let there = given_within sources _ n (loaded.placed n within) in
       subst (λ c. IsPropagated trail c) (given-clause given table sources places n loaded within)
-      (propagated trail _ (settled (place_of places n) (omega (arith, there, derived.count))));
+      (propagated trail _ (settled (given_place places n) (omega (arith, there, derived.count))));
   met = λ k d below.
       let size = same-length requirements wanted places same in
       let none : StoredRequirement = record { number = 0; of_root = false } in
@@ -201,7 +201,7 @@ finished given table sources places requirements wanted trail derived justified 
 -- the same with known numbers
 pub finished_for : (given table : List (List Literal)) (sources : List Source) (places : List ℕ) (requirements : List StoredRequirement)
     (wanted : List RequirementClause) (numbers : List ℕ) (trail : Trail) → numbers_of wanted ≡ numbers → IsDerived table sources → IsJustified table trail →
-    AreChosen table requirements trail → AreLoaded given table sources places → stored_places requirements ≡ map (place_of places) numbers →
+    AreChosen table requirements trail → AreLoaded given table sources places → stored_places requirements ≡ map (given_place places) numbers →
     All (λ n. n < length given) numbers → AllSettled trail table → All (λ (r : StoredRequirement). IsMet trail (clause_at table r.number)) requirements →
     IsFinished given wanted trail
 finished_for given table sources places requirements wanted numbers trail are derived justified chosen loaded same inside settled met =
@@ -211,7 +211,8 @@ finished_for given table sources places requirements wanted numbers trail are de
     let within : k < length numbers = omega (arith, below, length-map wanted (λ (q : RequirementClause). q.number), ap length are) in
     omega (arith, inside k 0 within, at)
     in
-    finished given table sources places requirements wanted trail derived justified chosen loaded (same ∙ ap (map (place_of places)) (sym are)) each settled met
+    finished given table sources places requirements wanted trail derived justified chosen loaded (same ∙
+        ap (map (given_place places)) (sym are)) each settled met
 
 -- more variables without a value
 pub justified-grown : (table : List (List Literal)) (old new : Trail) (variables : ℕ) → IsGrown old new variables → IsJustified table old →
@@ -225,7 +226,7 @@ justified-grown table old new variables grown justified =
       contains = λ v s n at reason. justified.contains v s n (sym (back v) ∙ at) reason;
     }
 
-pub extends-grown : (old new : Trail) (variables : ℕ) → IsGrown old new variables → Extends old new
+pub extends-grown : (old new : Trail) (variables : ℕ) → IsGrown old new variables → ExtendsTrail old new
 extends-grown old new variables grown = record { kept = λ v s at. grown.slots v ∙ at; only = λ v s at. inl (sym (grown.slots v) ∙ at) }
 
 -- a requirement after the others
@@ -294,7 +295,7 @@ loaded-clause old new given numbers clause number place it first end table sourc
 }
 
 pub loaded-requirement : (old new : ClauseSearch) (given : List (List Literal)) (numbers : List ℕ) (requirement : StoredRequirement) (number : ℕ) →
-    number < length old.places → requirement.number ≡ place_of old.places number → new.table ≡ old.table →
+    number < length old.places → requirement.number ≡ given_place old.places number → new.table ≡ old.table →
     new.sources ≡ old.sources → new.places ≡ old.places → new.requirements.items ≡ old.requirements.items ++ requirement ∷ [] →
     IsLoaded given numbers old → IsLoaded given (numbers ++ number ∷ []) new
 loaded-requirement old new given numbers requirement number inside here table sources places requirements loaded = record {
@@ -380,7 +381,7 @@ pub requirements-begin : (it : ClauseSearch) (given : List (List Literal)) (want
 requirements-begin it given wanted numbers more count end loaded is =
     let Loaded : List ℕ → Type 0 = λ ns. IsLoaded given ns it in
     let size : length it.requirements.items ≡ length numbers = sym (length-map it.requirements.items (λ (r : StoredRequirement). r.number)) ∙
-    ap length loaded.requirements ∙ length-map numbers (place_of it.places) in
+    ap length loaded.requirements ∙ length-map numbers (given_place it.places) in
     subst Loaded (sym (ap (take count) is ∙ take_at numbers more count (sym size ∙ sym end))) loaded
 
 pub requirements-next : (old new : ClauseSearch) (given : List (List Literal)) (requirements : List RequirementClause) (requirement : RequirementClause)

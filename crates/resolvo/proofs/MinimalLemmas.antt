@@ -8,7 +8,7 @@ use Rattle.std.proofs.Math.Seq.{drop-length, get_or-append_seam}
 use Rattle.std.proofs.lemmas.Bool.{cases_Bool, cases_lt, false≢true}
 use Rattle.std.proofs.lemmas.List.{get_or_append_left, get_or-replicate, length-take, take_all}
 use Rattle.std.proofs.lemmas.List.Elements.{AllZip-push, Contains-append_left, Contains-append_right, Contains-append_cases}
-use Rattle.resolver_clause_store.specs.Lists.{IsCut, cut_none, cut_left, cut_right, IsWithin}
+use Rattle.resolver_clause_store.specs.Lists.{IsInterleaving, interleave_none, interleave_left, interleave_right, IsWithin}
 use Rattle.resolver_clause_store.specs.Statements.{StatesTheSame}
 use Rattle.resolver_clause_store.specs.Rules.{IsRefuted, IsIrreducible}
 use Rattle.resolver_clause_store.specs.TrueRules.{IsTrueRule}
@@ -19,7 +19,7 @@ use Rattle.resolver_report.specs.ReachedRules.{IsKept, LeavesKept}
 use Rattle.resolvo.proofs.SameLemmas.{AllTrue-same, IsIrreducible-same, IsRefuted-same}
 use Rattle.resolvo.specs.Explanations.{Explains}
 use Rattle.resolver_clause_store.proofs.ListLemmas.{Contains-here as at_front, Contains-there as further, Contains-cons_cases}
-use Rattle.resolvo.specs.Minimal.{LeavesInTurn, CopiesLeft, CopiesPart, marked, others_of, AreAmong, IsRefutedPart, IsUnderway}
+use Rattle.resolvo.specs.Minimal.{LeavesInTurn, CopiesLeft, CopiesPart, only_marked, others_of, AreAmong, IsRefutedPart, IsUnderway}
 
 -- fewer sets obey more rules
 pub IsRefuted-within : {N S : Type 0} (rules more : List (Rule N S)) → IsWithin rules more → IsRefuted rules → IsRefuted more
@@ -97,12 +97,12 @@ left_irreducible rules left h refuted = (left_refuted rules [] left h refuted, l
 
 -- the rules that are left in the end are a part of all rules, in their order
 pub left_cut : {N S : Type 0} (rest kept left : List (Rule N S)) → LeavesInTurn kept rest left → (stays : List (Rule N S)) × (dropped : List (Rule N S)) ×
-    (left ≡ kept ++ stays) × IsCut rest stays dropped
-left_cut [] kept left h = ([], [], h ∙ sym (append-nil kept), cut_none)
+    (left ≡ kept ++ stays) × IsInterleaving rest stays dropped
+left_cut [] kept left h = ([], [], h ∙ sym (append-nil kept), interleave_none)
 left_cut {N} {S} (rule ∷ rest) kept left h = ⊎_elim
-    (λ (out : IsRefuted (kept ++ rest) × LeavesInTurn kept rest left). let w = left_cut rest kept left out.1 in (w.0, rule ∷ w.1, w.2, cut_right w.3))
+    (λ (out : IsRefuted (kept ++ rest) × LeavesInTurn kept rest left). let w = left_cut rest kept left out.1 in (w.0, rule ∷ w.1, w.2, interleave_right w.3))
     (λ (stays : (IsRefuted (kept ++ rest) → ⊥) × LeavesInTurn (kept ++ rule ∷ []) rest left).
-    let w = left_cut rest (kept ++ rule ∷ []) left stays.1 in (rule ∷ w.0, w.1, w.2 ∙ regroup kept rule w.0, cut_left w.3))
+    let w = left_cut rest (kept ++ rule ∷ []) left stays.1 in (rule ∷ w.0, w.1, w.2 ∙ regroup kept rule w.0, interleave_left w.3))
     h
 
 -- if some set obeys the rules, all are left
@@ -118,18 +118,18 @@ all_left {N} {S} (rule ∷ rest) kept obeyed =
     )
 
 -- a part has no other elements
-pub cut_within : {X : Type 0} {xs ys zs : List X} → IsCut xs ys zs → IsWithin ys xs
-cut_within cut_none x inside = inside
-cut_within (cut_left {x = y} {xs = xs} {ys = ys} rest) x inside = ⊎_elim
+pub cut_within : {X : Type 0} {xs ys zs : List X} → IsInterleaving xs ys zs → IsWithin ys xs
+cut_within interleave_none x inside = inside
+cut_within (interleave_left {x = y} {xs = xs} {ys = ys} rest) x inside = ⊎_elim
     (λ (same : y ≡ x). subst (Contains (y ∷ xs)) same (at_front y xs))
     (λ (there : Contains ys x). further y xs x (cut_within rest x there))
     (Contains-cons_cases y ys x inside)
-cut_within (cut_right {x = y} {xs = xs} rest) x inside = further y xs x (cut_within rest x inside)
+cut_within (interleave_right {x = y} {xs = xs} rest) x inside = further y xs x (cut_within rest x inside)
 
 -- a part is the whole, or lacks an element at some place
-cut_or : {X : Type 0} {xs ys zs : List X} → IsCut xs ys zs → (ys ≡ xs) ⊎ ((k : ℕ) × (k < length xs) × IsWithin ys (remove xs k))
-cut_or cut_none = inl refl
-cut_or {X} (cut_left {x = y} {xs = xs} {ys = ys} rest) = ⊎_elim
+cut_or : {X : Type 0} {xs ys zs : List X} → IsInterleaving xs ys zs → (ys ≡ xs) ⊎ ((k : ℕ) × (k < length xs) × IsWithin ys (remove xs k))
+cut_or interleave_none = inl refl
+cut_or {X} (interleave_left {x = y} {xs = xs} {ys = ys} rest) = ⊎_elim
     (λ (same : ys ≡ xs). inl (ap (λ q. y ∷ q) same))
     (λ (w : (k : ℕ) × (k < length xs) × IsWithin ys (remove xs k)).
     let less : suc w.0 < length (y ∷ xs) = omega (arith, w.1) in
@@ -141,10 +141,11 @@ cut_or {X} (cut_left {x = y} {xs = xs} {ys = ys} rest) = ⊎_elim
           further y (remove xs w.0) x (w.2 x there)) (Contains-cons_cases y ys x inside),
     ))
     (cut_or rest)
-cut_or (cut_right {x = y} {xs = xs} rest) = let less : 0 < length (y ∷ xs) = omega arith in inr (zero, less, cut_within rest)
+cut_or (interleave_right {x = y} {xs = xs} rest) = let less : 0 < length (y ∷ xs) = omega arith in inr (zero, less, cut_within rest)
 
 -- a refuted part of an irreducible list is the whole
-pub irreducible_cut : {N S : Type 0} (rules left dropped : List (Rule N S)) → IsIrreducible rules → IsCut rules left dropped → IsRefuted left → left ≡ rules
+pub irreducible_cut : {N S : Type 0} (rules left dropped : List (Rule N S)) → IsIrreducible rules → IsInterleaving rules left dropped → IsRefuted left →
+    left ≡ rules
 irreducible_cut rules left dropped irreducible cut refuted = ⊎_elim
     (λ (same : left ≡ rules). same)
     (λ (w : (k : ℕ) × (k < length rules) × IsWithin left (remove rules k)).
@@ -152,59 +153,59 @@ irreducible_cut rules left dropped irreducible cut refuted = ⊎_elim
     (cut_or cut)
 
 -- a part of a part is a part
-pub cut_again : {X : Type 0} {xs ys zs vs ws : List X} → IsCut xs ys zs → IsCut ys vs ws → (dropped : List X) × IsCut xs vs dropped
-cut_again cut_none cut_none = ([], cut_none)
-cut_again (cut_left {x = x} rest) (cut_left more) = let w = cut_again rest more in (w.0, cut_left w.1)
-cut_again (cut_left {x = x} rest) (cut_right more) = let w = cut_again rest more in (x ∷ w.0, cut_right w.1)
-cut_again (cut_right {x = x} rest) more = let w = cut_again rest more in (x ∷ w.0, cut_right w.1)
+pub cut_again : {X : Type 0} {xs ys zs vs ws : List X} → IsInterleaving xs ys zs → IsInterleaving ys vs ws → (dropped : List X) × IsInterleaving xs vs dropped
+cut_again interleave_none interleave_none = ([], interleave_none)
+cut_again (interleave_left {x = x} rest) (interleave_left more) = let w = cut_again rest more in (w.0, interleave_left w.1)
+cut_again (interleave_left {x = x} rest) (interleave_right more) = let w = cut_again rest more in (x ∷ w.0, interleave_right w.1)
+cut_again (interleave_right {x = x} rest) more = let w = cut_again rest more in (x ∷ w.0, interleave_right w.1)
 
 -- a part of a list that agrees element by element
-pub cut_zip : {X : Type 0} (R : X → X → Type 0) (xs : List X) {ys vs ws : List X} → IsCut ys vs ws → AllZip R xs ys → (left : List X) × (dropped : List X) ×
-    IsCut xs left dropped × AllZip R left vs
-cut_zip R [] cut_none h = ([], [], cut_none, tt)
-cut_zip R [] (cut_left rest) h = absurd h
-cut_zip R [] (cut_right rest) h = absurd h
-cut_zip R (x ∷ xs) cut_none h = absurd h
-cut_zip R (x ∷ xs) (cut_left rest) (here, more) = let w = cut_zip R xs rest more in (x ∷ w.0, w.1, cut_left w.2, (here, w.3))
-cut_zip R (x ∷ xs) (cut_right rest) (here, more) = let w = cut_zip R xs rest more in (w.0, x ∷ w.1, cut_right w.2, w.3)
+pub cut_zip : {X : Type 0} (R : X → X → Type 0) (xs : List X) {ys vs ws : List X} → IsInterleaving ys vs ws → AllZip R xs ys → (left : List X) ×
+    (dropped : List X) × IsInterleaving xs left dropped × AllZip R left vs
+cut_zip R [] interleave_none h = ([], [], interleave_none, tt)
+cut_zip R [] (interleave_left rest) h = absurd h
+cut_zip R [] (interleave_right rest) h = absurd h
+cut_zip R (x ∷ xs) interleave_none h = absurd h
+cut_zip R (x ∷ xs) (interleave_left rest) (here, more) = let w = cut_zip R xs rest more in (x ∷ w.0, w.1, interleave_left w.2, (here, w.3))
+cut_zip R (x ∷ xs) (interleave_right rest) (here, more) = let w = cut_zip R xs rest more in (w.0, x ∷ w.1, interleave_right w.2, w.3)
 
 -- marks that are all true
-marked_all : {X : Type 0} (n : ℕ) (xs : List X) → length xs ≤ n → marked (replicate n true) xs ≡ xs
+marked_all : {X : Type 0} (n : ℕ) (xs : List X) → length xs ≤ n → only_marked (replicate n true) xs ≡ xs
 marked_all zero [] fit = refl
 marked_all zero (x ∷ xs) fit = absurd (omega (arith, fit))
 marked_all (suc n) [] fit = refl
 marked_all (suc n) (x ∷ xs) fit = ap (λ q. x ∷ q) (marked_all n xs (omega (arith, fit)))
 
-pub all_marked : {X : Type 0} (xs : List X) → marked (replicate (length xs) true) xs ≡ xs
+pub all_marked : {X : Type 0} (xs : List X) → only_marked (replicate (length xs) true) xs ≡ xs
 all_marked xs = marked_all (length xs) xs (omega arith)
 
 marked_others : {X : Type 0} (kept : List Bool) (n : ℕ) (xs : List X) → length kept < length xs → length xs ≤ length kept + suc n →
-    marked (others_of kept n) xs ≡ marked kept xs ++ drop (suc (length kept)) xs
+    only_marked (others_of kept n) xs ≡ only_marked kept xs ++ drop (suc (length kept)) xs
 marked_others kept n [] below fit = absurd (omega (arith, below))
 marked_others [] n (x ∷ xs) below fit = marked_all n xs (omega (arith, fit))
 marked_others (true ∷ kept) n (x ∷ xs) below fit = ap (λ q. x ∷ q) (marked_others kept n xs (omega (arith, below)) (omega (arith, fit)))
 marked_others (false ∷ kept) n (x ∷ xs) below fit = marked_others kept n xs (omega (arith, below)) (omega (arith, fit))
 
 marked_push : {X : Type 0} (kept : List Bool) (b : Bool) (xs : List X) (x : X) → length kept < length xs → x ≡ get_or xs (length kept) x →
-    marked (kept ++ b ∷ []) xs ≡ marked kept xs ++ cond b (x ∷ []) []
+    only_marked (kept ++ b ∷ []) xs ≡ only_marked kept xs ++ cond b (x ∷ []) []
 marked_push kept b [] x below is = absurd (omega (arith, below))
 marked_push [] b (y ∷ xs) x below is = ap (λ q. cond b (q ∷ []) []) (sym is)
 marked_push (true ∷ kept) b (y ∷ xs) x below is = ap (λ q. y ∷ q) (marked_push kept b xs x (omega (arith, below)) is)
 marked_push (false ∷ kept) b (y ∷ xs) x below is = marked_push kept b xs x (omega (arith, below)) is
 
 -- more marks give more elements
-pub marked_among : {X : Type 0} (marks others : List Bool) (xs : List X) → AreAmong marks others → IsWithin (marked marks xs) (marked others xs)
+pub marked_among : {X : Type 0} (marks others : List Bool) (xs : List X) → AreAmong marks others → IsWithin (only_marked marks xs) (only_marked others xs)
 marked_among [] others xs among x inside = absurd (omega (arith, inside.1))
 marked_among (b ∷ marks) others [] among x inside = absurd (omega (arith, inside.1))
 marked_among (true ∷ marks) [] (y ∷ xs) among x inside = absurd (false≢true (among 0 refl))
 marked_among (false ∷ marks) [] (y ∷ xs) among x inside = marked_among marks [] xs (λ k is. among (suc k) is) x inside
 marked_among (true ∷ marks) (true ∷ others) (y ∷ xs) among x inside = ⊎_elim
-    (λ (same : y ≡ x). subst (Contains (y ∷ marked others xs)) same (at_front y (marked others xs)))
-    (λ (there : Contains (marked marks xs) x). further y (marked others xs) x (marked_among marks others xs (λ k is. among (suc k) is) x there))
-    (Contains-cons_cases y (marked marks xs) x inside)
+    (λ (same : y ≡ x). subst (Contains (y ∷ only_marked others xs)) same (at_front y (only_marked others xs)))
+    (λ (there : Contains (only_marked marks xs) x). further y (only_marked others xs) x (marked_among marks others xs (λ k is. among (suc k) is) x there))
+    (Contains-cons_cases y (only_marked marks xs) x inside)
 marked_among (true ∷ marks) (false ∷ others) (y ∷ xs) among x inside = absurd (false≢true (among 0 refl))
 marked_among (false ∷ marks) (true ∷ others) (y ∷ xs) among x inside =
-    further y (marked others xs) x (marked_among marks others xs (λ k is. among (suc k) is) x inside)
+    further y (only_marked others xs) x (marked_among marks others xs (λ k is. among (suc k) is) x inside)
 marked_among (false ∷ marks) (false ∷ others) (y ∷ xs) among x inside = marked_among marks others xs (λ k is. among (suc k) is) x inside
 
 -- the marks of the other rules
@@ -268,39 +269,39 @@ module _ {N S : Type 0} (rules : List (Rule N S)) (kept : List Bool) (below : le
 
   -- one more rule had its turn
   so_far_push : (b : Bool) (rule : Rule N S) → rule ≡ get_or rules (length kept) rule →
-      ((left : List (Rule N S)) → LeavesInTurn (marked kept rules) (drop (length kept) rules) left → LeavesInTurn [] rules left) →
-      ((left : List (Rule N S)) → LeavesInTurn (marked kept rules ++ cond b (rule ∷ []) []) (drop (suc (length kept)) rules) left →
-      LeavesInTurn (marked kept rules) (rule ∷ drop (suc (length kept)) rules) left) →
-      (left : List (Rule N S)) → LeavesInTurn (marked (kept ++ b ∷ []) rules) (drop (length (kept ++ b ∷ [])) rules) left → LeavesInTurn [] rules left
+      ((left : List (Rule N S)) → LeavesInTurn (only_marked kept rules) (drop (length kept) rules) left → LeavesInTurn [] rules left) →
+      ((left : List (Rule N S)) → LeavesInTurn (only_marked kept rules ++ cond b (rule ∷ []) []) (drop (suc (length kept)) rules) left →
+      LeavesInTurn (only_marked kept rules) (rule ∷ drop (suc (length kept)) rules) left) →
+      (left : List (Rule N S)) → LeavesInTurn (only_marked (kept ++ b ∷ []) rules) (drop (length (kept ++ b ∷ [])) rules) left → LeavesInTurn [] rules left
   so_far_push b rule is so_far step left h =
       let cut : drop (length kept) rules ≡ rule ∷ drop (suc (length kept)) rules = drop-cons rules (length kept) rule below ∙
       ap (λ q. q ∷ drop (suc (length kept)) rules) (sym is) in
-      let Rest : List (Rule N S) → Type 0 = λ q. LeavesInTurn (marked kept rules) q left in
+      let Rest : List (Rule N S) → Type 0 = λ q. LeavesInTurn (only_marked kept rules) q left in
       let Kept : List (Rule N S) → Type 0 = λ q. LeavesInTurn q (drop (suc (length kept)) rules) left in
-      let From : ℕ → Type 0 = λ n. LeavesInTurn (marked (kept ++ b ∷ []) rules) (drop n rules) left in
+      let From : ℕ → Type 0 = λ n. LeavesInTurn (only_marked (kept ++ b ∷ []) rules) (drop n rules) left in
       so_far left (subst Rest (sym cut) (step left (subst Kept (marked_push kept b rules rule below is) (subst From (longer b) h))))
 
   -- a rule outside a refuted part of the others is left out
   turn_out_by : (core next : List Bool) (rule : Rule N S) → rule ≡ get_or rules (length kept) rule → IsUnderway rules kept core → length next ≡ length rules →
-      IsRefuted (marked next rules) → there_of next → get_or next (length kept) false ≡ false → IsUnderway rules (kept ++ false ∷ []) next
+      IsRefuted (only_marked next rules) → there_of next → get_or next (length kept) false ≡ false → IsUnderway rules (kept ++ false ∷ []) next
   turn_out_by core next rule is underway size refuted there off =
-      let within : IsWithin (marked next rules) (marked (others_of kept spare) rules) =
+      let within : IsWithin (only_marked next rules) (only_marked (others_of kept spare) rules) =
       marked_among next (others_of kept spare) rules (among_others next kept spare (omega (arith, size, fit)) there off) in
-      let others_refuted : IsRefuted (marked kept rules ++ drop (suc (length kept)) rules) =
+      let others_refuted : IsRefuted (only_marked kept rules ++ drop (suc (length kept)) rules) =
       subst Refuted (marked_others kept spare rules below (omega (arith, fit)))
-      (IsRefuted-within (marked next rules) (marked (others_of kept spare) rules) within refuted) in
+      (IsRefuted-within (only_marked next rules) (only_marked (others_of kept spare) rules) within refuted) in
       record {
         size = size;
         refuted = refuted;
         there = there_push next false there (λ on. sym off ∙ on);
         so_far = so_far_push false rule is underway.so_far (λ left h.
             let Kept : List (Rule N S) → Type 0 = λ q. LeavesInTurn q (drop (suc (length kept)) rules) left in
-            inl (others_refuted, subst Kept (append-nil (marked kept rules)) h));
+            inl (others_refuted, subst Kept (append-nil (only_marked kept rules)) h));
       }
 
   -- a rule is kept if some set obeys the others
   turn_kept_by : (core : List Bool) (rule : Rule N S) → rule ≡ get_or rules (length kept) rule → IsUnderway rules kept core →
-      (IsRefuted (marked (others_of kept spare) rules) → ⊥) → IsUnderway rules (kept ++ true ∷ []) core
+      (IsRefuted (only_marked (others_of kept spare) rules) → ⊥) → IsUnderway rules (kept ++ true ∷ []) core
   turn_kept_by core rule is underway obeyed = record {
     size = underway.size;
     refuted = underway.refuted;
@@ -335,7 +336,7 @@ turn_left_out rules kept core next spare below fit underway part =
 
 -- a rule is kept if some set obeys the others
 pub turn_kept : {N S : Type 0} (rules : List (Rule N S)) (kept core : List Bool) (spare : ℕ) → length kept < length rules →
-    length rules ≤ length kept + suc spare → IsUnderway rules kept core → (IsRefuted (marked (others_of kept spare) rules) → ⊥) →
+    length rules ≤ length kept + suc spare → IsUnderway rules kept core → (IsRefuted (only_marked (others_of kept spare) rules) → ⊥) →
     IsUnderway rules (kept ++ true ∷ []) core
 turn_kept rules kept core spare below fit underway obeyed = let w = some_at rules (length kept) below in
     turn_kept_by rules kept below spare fit core w.0 w.1 underway obeyed
@@ -347,11 +348,11 @@ underway_first rules core others part =
 
 -- after the last turn
 pub underway_done : {N S : Type 0} (rules : List (Rule N S)) (kept core : List Bool) → length kept ≡ length rules → IsUnderway rules kept core →
-    LeavesInTurn [] rules (marked kept rules)
+    LeavesInTurn [] rules (only_marked kept rules)
 underway_done {N} {S} rules kept core end underway =
-    let From : List (Rule N S) → Type 0 = λ q. LeavesInTurn (marked kept rules) q (marked kept rules) in
+    let From : List (Rule N S) → Type 0 = λ q. LeavesInTurn (only_marked kept rules) q (only_marked kept rules) in
     let none : drop (length kept) rules ≡ [] = ap (λ n. drop n rules) end ∙ drop-length rules in
-    underway.so_far (marked kept rules) (subst From (sym none) refl)
+    underway.so_far (only_marked kept rules) (subst From (sym none) refl)
 
 take_longer : (marks : List Bool) (k : ℕ) (b : Bool) → k < length marks → get_or marks k false ≡ b → take (k + 1) marks ≡ take k marks ++ b ∷ []
 take_longer [] k b below is = absurd (omega (arith, below))
@@ -361,30 +362,32 @@ take_longer (m ∷ marks) (suc k) b below is = let e : suc k + 1 ≡ suc (k + 1)
 
 -- one more mark
 marked_next : {X : Type 0} (marks : List Bool) (xs : List X) (k : ℕ) (b : Bool) (x : X) → length marks ≡ length xs → k < length xs → x ≡ get_or xs k x →
-    get_or marks k false ≡ b → marked (take (k + 1) marks) xs ≡ marked (take k marks) xs ++ cond b (x ∷ []) []
+    get_or marks k false ≡ b → only_marked (take (k + 1) marks) xs ≡ only_marked (take k marks) xs ++ cond b (x ∷ []) []
 marked_next marks xs k b x size below is mark =
     let first : length (take k marks) ≡ k = omega (arith, length-take k marks, below, size) in
     let At : ℕ → Type 0 = λ j. x ≡ get_or xs j x in
-    ap (λ q. marked q xs) (take_longer marks k b (omega (arith, below, size)) mark) ∙
+    ap (λ q. only_marked q xs) (take_longer marks k b (omega (arith, below, size)) mark) ∙
     marked_push (take k marks) b xs x (omega (arith, first, below)) (subst At (sym first) is)
 
 pub copied_not : {N S : Type 0} (marks : List Bool) (rules copies : List (Rule N S)) (k : ℕ) → length marks ≡ length rules → k < length rules →
-    get_or marks k false ≡ false → AllZip StatesTheSame (marked (take k marks) rules) copies → AllZip StatesTheSame (marked (take (k + 1) marks) rules) copies
+    get_or marks k false ≡ false → AllZip StatesTheSame (only_marked (take k marks) rules) copies →
+        AllZip StatesTheSame (only_marked (take (k + 1) marks) rules) copies
 copied_not {N} {S} marks rules copies k size below mark same =
     let w = some_at rules k below in
     let P : List (Rule N S) → Type 0 = λ q. AllZip StatesTheSame q copies in
-    subst P (sym (marked_next marks rules k false w.0 size below w.1 mark ∙ append-nil (marked (take k marks) rules))) same
+    subst P (sym (marked_next marks rules k false w.0 size below w.1 mark ∙ append-nil (only_marked (take k marks) rules))) same
 
 pub copied : {N S : Type 0} (marks : List Bool) (rules copies : List (Rule N S)) (k : ℕ) (rule copy : Rule N S) → length marks ≡ length rules →
     k < length rules → rule ≡ get_or rules k rule → get_or marks k false ≡ true → StatesTheSame rule copy →
-    AllZip StatesTheSame (marked (take k marks) rules) copies → AllZip StatesTheSame (marked (take (k + 1) marks) rules) (copies ++ copy ∷ [])
+    AllZip StatesTheSame (only_marked (take k marks) rules) copies → AllZip StatesTheSame (only_marked (take (k + 1) marks) rules) (copies ++ copy ∷ [])
 copied {N} {S} marks rules copies k rule copy size below is mark here same =
     let P : List (Rule N S) → Type 0 = λ q. AllZip StatesTheSame q (copies ++ copy ∷ []) in
-    subst P (sym (marked_next marks rules k true rule size below is mark)) (AllZip-push StatesTheSame (marked (take k marks) rules) copies rule copy same here)
+    subst P (sym (marked_next marks rules k true rule size below is mark))
+        (AllZip-push StatesTheSame (only_marked (take k marks) rules) copies rule copy same here)
 
 pub copied_all : {N S : Type 0} (marks : List Bool) (rules copies : List (Rule N S)) (k : ℕ) → length marks ≤ k →
-    AllZip StatesTheSame (marked (take k marks) rules) copies → AllZip StatesTheSame (marked marks rules) copies
-copied_all {N} {S} marks rules copies k end same = let P : List Bool → Type 0 = λ q. AllZip StatesTheSame (marked q rules) copies in
+    AllZip StatesTheSame (only_marked (take k marks) rules) copies → AllZip StatesTheSame (only_marked marks rules) copies
+copied_all {N} {S} marks rules copies k end same = let P : List Bool → Type 0 = λ q. AllZip StatesTheSame (only_marked q rules) copies in
     subst P (take_all k marks end) same
 
 -- copies of the rules that are left, without those about anything that is not reached
@@ -402,7 +405,7 @@ module _ {N S : Type 0} (rules left copies kept : List (Rule N S)) (in_turn : Le
   pub minimal_part : CopiesPart rules kept
   minimal_part =
       let first = left_cut rules [] left in_turn in
-      let Cut : List (Rule N S) → Type 0 = λ q. IsCut rules q first.1 in
+      let Cut : List (Rule N S) → Type 0 = λ q. IsInterleaving rules q first.1 in
       let second = cut_zip StatesTheSame left leaves.cut same in
       let whole = cut_again (subst Cut (sym first.2) first.3) second.2 in
       record { left = second.0; dropped = whole.0; cut = whole.1; same = second.3 }
@@ -423,6 +426,6 @@ module _ {N S : Type 0} (rules left copies kept : List (Rule N S)) (in_turn : Le
   }
 
 -- marks of refuted rules
-pub whole_part : {N S : Type 0} (rules : List (Rule N S)) (marks : List Bool) → length marks ≡ length rules → IsRefuted (marked marks rules) →
+pub whole_part : {N S : Type 0} (rules : List (Rule N S)) (marks : List Bool) → length marks ≡ length rules → IsRefuted (only_marked marks rules) →
     IsRefutedPart rules marks marks
 whole_part rules marks size refuted = record { size = size; among = λ k is. is; refuted = refuted }

@@ -10,9 +10,9 @@ use Rattle.resolver_clause_store.specs.SoftRun.{SoftRun}
 use Rattle.resolver_clause_store.specs.Variables.{AreDistinct}
 use Rattle.resolvo.specs.Answers.{IsSoftAnswer}
 use Rattle.resolvo.specs.ClauseSearches.{clause_count_of, learnt_count_of}
-use Rattle.resolvo.specs.RoundStates.{IsBetween, IsStuck, KeepsRoom, chosen_of, notes_of, search_of}
+use Rattle.resolvo.specs.RoundStates.{IsBetween, IsStuck, KeepsRoundLimits, chosen_of, notes_of, search_of}
 use Rattle.resolvo.specs.Refusals.{IsRefusal}
-use Rattle.resolvo.specs.Solvers.{IsAtLimit, KeepsLimits, rounds_in}
+use Rattle.resolvo.specs.Solvers.{IsAtLimit, KeepsSolverLimits, rounds_in}
 use Rattle.resolvo.specs.declared.rounds.Rounds.{Rounds}
 use Rattle.resolvo.specs.declared.solver.Solver.{Solver}
 use Rattle.resolvo.specs.declared.solver.UnsolvableOrCancelled.{UnsolvableOrCancelled}
@@ -25,9 +25,9 @@ pub same_demands : (d : Demands) (rs : List ConditionalRequirement) (vs : List V
 same_demands d rs vs r v = λ i. record { requirements = r i; constraints = v i }
 
 -- a count of the rounds at its limit is a count of the solver at its limit
-pub at_limit : {D C N S : Type 0} (made found : Rounds N S) (old new : Solver D C N S) → KeepsRoom made found →
+pub at_limit : {D C N S : Type 0} (made found : Rounds N S) (old new : Solver D C N S) → KeepsRoundLimits made found →
     (notes_of made).variable_limit ≡ old.variable_limit → (notes_of made).clause_limit ≡ old.clause_limit → made.clause_limit ≡ old.clause_limit →
-    made.learnt_limit ≡ old.learnt_limit → KeepsLimits old new → rounds_in new ≡ found → IsStuck found → IsAtLimit new
+    made.learnt_limit ≡ old.learnt_limit → KeepsSolverLimits old new → rounds_in new ≡ found → IsStuck found → IsAtLimit new
 at_limit {D} {C} {N} {S} made found old new room variables kinds clauses learnt limits same stuck =
     let At : Rounds N S → Type 0 = λ r. ((length (notes_of r).origins ≡ new.variable_limit) × AreDistinct (notes_of r).origins)
     ⊎ ((length (notes_of r).kinds ≡ new.clause_limit)

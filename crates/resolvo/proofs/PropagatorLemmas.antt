@@ -15,7 +15,7 @@ use Rattle.resolver_clause_store.specs.TrailView.{slot_of, length_of, literal_va
 use Rattle.resolver_clause_store.proofs.KeptLemmas.{keeps_all, slot_at}
 use Rattle.resolver_clause_store.proofs.TrailLemmas.{Keeps, false-before, keeps-gains}
 use Rattle.resolver_clause_store.specs.Settled.{AllSettled}
-use Rattle.resolvo.specs.Propagators.{AreLate, Covers, IsAttached, IsExcused, IsNoted, IsPropagator, IsTrueAt, IsTrueBefore, attached_of, head_of}
+use Rattle.resolvo.specs.Propagators.{AreLate, IsAttached, IsExcused, IsNoted, IsPropagator, IsTrueAt, IsTrueBefore, IsWatchInvariant, attached_of, head_of}
 use Rattle.resolver_clause_store.specs.Watches.{IsWatching, pair_at}
 use Rattle.resolver_clause_store.proofs.WatchListLemmas.{cases_literal}
 use Rattle.resolver_clause_store.specs.WatchesView.{lists_of, pairs_of}
@@ -58,7 +58,7 @@ excused-kept table old new late pending level number keeps excused = ⊎_elim
     excused
 
 pub covers-kept : (table : List (List Literal)) (old new : Trail) (pairs : List WatchedPair) (late : List Late) (pending : List ℕ) (head : ℕ) →
-    Keeps old new → head ≤ length_of old → Covers table old pairs late pending head → Covers table new pairs late pending head
+    Keeps old new → head ≤ length_of old → IsWatchInvariant table old pairs late pending head → IsWatchInvariant table new pairs late pending head
 covers-kept table old new pairs late pending head keeps within covers = record {
   watched = λ number literal watching fails.
       let was : IsFalseBefore old head literal =

@@ -22,7 +22,7 @@ use Rattle.resolver_encoding.specs.Encodings.{IsEncoding, Notes}
 use Rattle.resolver_encoding.specs.LeftOut.{AreTrueIn, IsLeftOut}
 use Rattle.resolver_encoding.specs.Trails.{AreAssumed, origin_at}
 use Rattle.resolver_encoding.proofs.LeftOutLemmas.{asked_candidate, satisfies_fewer}
-use Rattle.resolvo.specs.ClauseSearches.{IsConsistent, IsLoaded, IsRefused, base_of, place_of, trail_of}
+use Rattle.resolvo.specs.ClauseSearches.{IsConsistent, IsLoaded, IsRefused, base_of, given_place, trail_of}
 use Rattle.resolvo.specs.Resolvents.{IsFalseAt}
 use Rattle.resolvo.specs.RoundStates.{HasLoaded, IsUnanswered, notes_of}
 use Rattle.resolvo.specs.declared.clause_search.ClauseSearch.{ClauseSearch}
@@ -91,10 +91,10 @@ module _ (it : ClauseSearch) (given : List (List Literal)) (numbers : List ℕ) 
 -- each decided variable stands for a solvable, and is true
 module _ {N S : Type 0} (u : Universe N S) (root : Demands) (notes : Notes N S) (encoding : IsEncoding u root notes) (it : ClauseSearch)
     (consistent : IsConsistent it) (has : HasLoaded notes.table notes.requirements it) where
-  given_at_place : (number : ℕ) → Contains has.numbers number → clause_at it.table (place_of it.places number) ≡ clause_at notes.table number
+  given_at_place : (number : ℕ) → Contains has.numbers number → clause_at it.table (given_place it.places number) ≡ clause_at notes.table number
   given_at_place number listed =
       let inside : number < length has.given = All-contains (λ n. n < length has.given) has.numbers number has.loaded.inside listed in
-      has.loaded.clauses.are.same (place_of it.places number) number (has.loaded.clauses.placed number inside) ∙
+      has.loaded.clauses.are.same (given_place it.places number) number (has.loaded.clauses.placed number inside) ∙
       sym (clause_at-append has.given has.clauses.more number inside) ∙ ap (λ t. clause_at t number) (sym has.clauses.is)
 
   pub decided_solvable : (variable : ℕ) (slot : Slot) (number : ℕ) → slot_of (trail_of it) variable ≡ Some slot → slot.reason ≡ Decided number →
@@ -103,7 +103,7 @@ module _ {N S : Type 0} (u : Universe N S) (root : Demands) (notes : Notes N S) 
       let c = consistent.chosen.each variable slot number at reason in
       let literal : Literal = record { variable = variable; positive = true } in
       let Among : List ℕ → Type 0 = λ list. Contains list c.requirement.number in
-      let w = Contains-map_back (place_of it.places) has.numbers c.requirement.number
+      let w = Contains-map_back (given_place it.places) has.numbers c.requirement.number
       (subst Among has.loaded.requirements (Contains-map (λ (r : StoredRequirement). r.number) it.requirements.items c.requirement c.listed)) in
       let is : clause_at notes.table w.0 ≡ c.before ++ literal ∷ c.after = sym (given_at_place w.0 w.1) ∙ ap (λ n. clause_at it.table n) w.2 ∙ c.clause in
       let Stands : List Literal → Type 0 = λ clause. Contains clause literal in

@@ -7,12 +7,12 @@ use Rattle.resolver_clause_store.specs.Literals.{Literal}
 use Rattle.resolver_clause_store.specs.declared.Trail.{Trail}
 use Rattle.resolver_clause_store.specs.TrailView.{literal_value}
 use Rattle.resolvo.specs.Propagation.{IsUnit}
-use Rattle.resolvo.specs.Visits.{Replaces, ReplacesAt}
+use Rattle.resolvo.specs.Visits.{IsReplacement, ReplacesAt}
 
 -- the literal at such a place
 pub replaces-at : (trail : Trail) (clause : List Literal) (other to : Literal) (place : ℕ) → ReplacesAt trail clause other place →
-    to ≡ get_or clause place to → Replaces trail clause other to
-replaces-at trail clause other to place found is = subst (λ (l : Literal). Replaces trail clause other l) (sym is) (found.replaces to)
+    to ≡ get_or clause place to → IsReplacement trail clause other to
+replaces-at trail clause other to place found is = subst (λ (l : Literal). IsReplacement trail clause other l) (sym is) (found.replaces to)
 
 module _ (trail : Trail) (clause : List Literal) (other : Literal) (start : ℕ) (within : start ≤ length clause) where
   -- there is none in either part
@@ -22,8 +22,8 @@ module _ (trail : Trail) (clause : List Literal) (other : Literal) (start : ℕ)
       subst (λ (ls : List Literal). All P ls) (take-append-drop start clause) (All-append P (take start clause) (drop start clause) first last)
 
   -- a literal of a part, at its place in the clause
-  replaces-here : (part : List Literal) (one d : Literal) (place : ℕ) → place < length clause → Replaces trail part other one → one ≡ get_or clause place d →
-      Replaces trail clause other (get_or clause place d)
+  replaces-here : (part : List Literal) (one d : Literal) (place : ℕ) → place < length clause → IsReplacement trail part other one →
+      one ≡ get_or clause place d → IsReplacement trail clause other (get_or clause place d)
   replaces-here part one d place inside found here =
       record {
         inside = Contains-get_or clause place d inside;

@@ -7,7 +7,7 @@ use Rattle.std.proofs.lemmas.List.{get_or_append_left, get_or_past, get_or_defau
 use Rattle.resolver_clause_store.specs.Rules.{IsRefuted}
 use Rattle.resolver_clause_store.specs.declared.Rule.{Rule}
 use Rattle.resolvo.proofs.MinimalLemmas.{others_at, others_before}
-use Rattle.resolvo.specs.Minimal.{marked, others_of}
+use Rattle.resolvo.specs.Minimal.{only_marked, others_of}
 use Rattle.resolvo.specs.RuleClauses.{DecideRules}
 use Rattle.resolvo.specs.Rotations.{AreNeeded, IsStillThere, MakesOthersTrue}
 use Rattle.resolvo.specs.declared.minimal.rule_clauses.RuleClause.{RuleClause}
@@ -66,12 +66,12 @@ module _ {N S : Type 0} (rules : List (Rule N S)) (kept needed : List Bool) (spa
       false≢true (sym (others_at kept spare) ∙ subst P same mark)
 
   needed_by : (variables : ℕ) (clauses : List RuleClause) → DecideRules rules variables clauses → AreNeeded clauses kept needed →
-      IsRefuted (marked (others_of kept spare) rules) → ⊥
+      IsRefuted (only_marked (others_of kept spare) rules) → ⊥
   needed_by variables clauses decide all = let w = all (length kept) marked_it in
       decide.complete (others_of kept spare) w.0 size (λ k d below mark. w.1 k d below (there _ mark) (other_one _ mark))
 
   -- a marked rule is needed
   pub marked_needed : (form : Option RuleClauses) → IsSome form → IfSome form (λ form. DecideRules rules form.variables form.clauses.items) →
-      IfSome form (λ form. AreNeeded form.clauses.items kept needed) → IsRefuted (marked (others_of kept spare) rules) → ⊥
+      IfSome form (λ form. AreNeeded form.clauses.items kept needed) → IsRefuted (only_marked (others_of kept spare) rules) → ⊥
   marked_needed None some decide all = absurd (false≢true some)
   marked_needed (Some form) some decide all = needed_by form.variables form.clauses.items decide all

@@ -36,8 +36,8 @@ use Rattle.resolver_encoding.proofs.TrailLemmas.{before_extends, follows_still}
 use Rattle.resolvo.specs.ClauseSearches.{IsConsistent, IsLoaded, KeepsLoaded, KeepsBookmark, KeepsTurn, clause_count_of, kept_of, learnt_count_of, numbers_of}
 use Rattle.resolvo.specs.ClauseSearches.{trail_of}
 use Rattle.resolvo.specs.declared.owners.Owners.{Owners}
-use Rattle.resolvo.specs.RoundStates.{AreRounds, HasFollowed, HasLoaded, HasBookmark, IsFollowing, IsFresh, IsSearchOf, IsStill, IsUpToDate, KeepsRead}
-use Rattle.resolvo.specs.RoundStates.{IsRound, KeepsRoom, chosen_of, notes_of}
+use Rattle.resolvo.specs.RoundStates.{AreRounds, HasFollowed, HasLoaded, HasBookmark, IsFollowingFrom, IsFresh, IsSearchOf, IsStill, IsUpToDate, KeepsRead}
+use Rattle.resolvo.specs.RoundStates.{IsRound, KeepsRoundLimits, chosen_of, notes_of}
 use Rattle.resolvo.specs.declared.rounds.Round.{Round}
 use Rattle.resolvo.specs.declared.rounds.Round.TheVariants.{Last, Fired, Read}
 use Rattle.resolvo.specs.declared.clause_search.ClauseSearch.{ClauseSearch}
@@ -220,7 +220,7 @@ module _ {N S : Type 0} where
       Follows new (notes_of old).origins (trail_of old.search) (length_of (trail_of old.search))) →
       Extends (chosen_in cut) (chosen_in new) → from ≡ length (chosen_in cut) → KeepsLoaded old.search search → trail_of search ≡ trail_of old.search →
       KeepsPlaces (trail_of search) (trail_of search) (kept_of search) →
-      IsFollowing old (record old { chosen = new; search = search }) from
+      IsFollowingFrom old (record old { chosen = new; search = search }) from
   following old kept from cut new search consistent up bookmark is cuts follows more count loaded same places =
       let origins : List (Origin N S) = (notes_of old).origins in
       let again = cut_again old kept cut new up bookmark is cuts follows in
@@ -256,20 +256,20 @@ module _ {N S : Type 0} where
   }
 
   -- notes that are read for the old list are read for the first elements of the new list
-  pub read_first : (u : Universe N S) (root : Demands) (old new : Rounds N S) (from : ℕ) (keys : List S) → IsFollowing old new from → keys ≡ chosen_of new →
+  pub read_first : (u : Universe N S) (root : Demands) (old new : Rounds N S) (from : ℕ) (keys : List S) → IsFollowingFrom old new from → keys ≡ chosen_of new →
       IsReadSoFar u root (chosen_of old) (notes_of old) → IsReadSoFar u root (take from keys) (notes_of new)
   read_first u root old new from keys following is h =
       let Encoded : Encoding N S → Type 0 = λ e. IsReadSoFar u root (chosen_of old) (notes_in e) in
       let Within : List S → Type 0 = λ list. IsWithin (take from list) (chosen_of old) in
       so_far_less u root (take from keys) (chosen_of old) (notes_of new) (subst Within (sym is) following.earlier) (subst Encoded (sym following.encoding) h)
 
-  pub reading_first : (u : Universe N S) (old new : Rounds N S) (from : ℕ) (keys : List S) → IsFollowing old new from → keys ≡ chosen_of new →
+  pub reading_first : (u : Universe N S) (old new : Rounds N S) (from : ℕ) (keys : List S) → IsFollowingFrom old new from → keys ≡ chosen_of new →
       IsReading u (chosen_of old) (notes_of old) → IsReading u (take from keys) (notes_of new)
   reading_first u old new from keys following is h = record { root = h.root; so_far = read_first u h.root old new from keys following is h.so_far }
 
   -- one more reading
-  pub read_more : (u : Universe N S) (old mid : Rounds N S) (from : ℕ) (keys : List S) (encoding : Encoding N S) → AreRounds u old → IsFollowing old mid from →
-      keys ≡ chosen_of mid → IsReadMore u keys (notes_of mid) (notes_in encoding) →
+  pub read_more : (u : Universe N S) (old mid : Rounds N S) (from : ℕ) (keys : List S) (encoding : Encoding N S) → AreRounds u old →
+      IsFollowingFrom old mid from → keys ≡ chosen_of mid → IsReadMore u keys (notes_of mid) (notes_in encoding) →
       ((root : Demands) → IsReadSoFar u root (take from keys) (notes_of mid) → IsReadSoFar u root keys (notes_in encoding)) →
       AreRounds u (record mid { encoding = encoding })
   read_more u old mid from keys encoding rounds following is more reads =
@@ -300,7 +300,7 @@ module _ {N S : Type 0} where
         };
       }
 
-  pub keeps_more : (u : Universe N S) (old mid : Rounds N S) (from : ℕ) (keys : List S) (encoding : Encoding N S) → IsFollowing old mid from →
+  pub keeps_more : (u : Universe N S) (old mid : Rounds N S) (from : ℕ) (keys : List S) (encoding : Encoding N S) → IsFollowingFrom old mid from →
       keys ≡ chosen_of mid →
       ((root : Demands) → IsReadSoFar u root (take from keys) (notes_of mid) → IsReadSoFar u root keys (notes_in encoding)) →
       KeepsRead u old (record mid { encoding = encoding })
@@ -329,12 +329,12 @@ module _ {N S : Type 0} where
   round_later u old mid new Read same is = (omega (arith, is.0, ap (λ (notes : Notes N S). length notes.read) same), is.1)
 
   -- the limits stay
-  pub room_trans : (one two three : Rounds N S) → KeepsRoom one two → KeepsRoom two three → KeepsRoom one three
+  pub room_trans : (one two three : Rounds N S) → KeepsRoundLimits one two → KeepsRoundLimits two three → KeepsRoundLimits one three
   room_trans one two three first second = record {
     notes = record { variables = second.notes.variables ∙ first.notes.variables; clauses = second.notes.clauses ∙ first.notes.clauses };
     clauses = second.clauses ∙ first.clauses;
     learnt = second.learnt ∙ first.learnt;
   }
 
-  pub room_same : (r : Rounds N S) → KeepsRoom r r
+  pub room_same : (r : Rounds N S) → KeepsRoundLimits r r
   room_same r = record { notes = record { variables = refl; clauses = refl }; clauses = refl; learnt = refl }

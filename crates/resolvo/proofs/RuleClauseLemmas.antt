@@ -9,9 +9,10 @@ use Rattle.resolver_clause_store.specs.Literals.{Literal}
 use Rattle.resolver_clause_store.specs.declared.Rule.{Rule}
 use Rattle.resolver_clause_store.specs.declared.Rule.TheVariants.{Requires, Constrains, Lock, Excluded, OnePerPackage}
 use Rattle.resolver_clause_store.proofs.PlaceLemmas.{Keeps-same, Keeps-trans}
-use Rattle.resolvo.specs.AddedLines.{Adds}
+use Rattle.resolvo.specs.AddedLines.{AppendsLines}
 use Rattle.resolver_encoding.specs.Codes.{bit}
-use Rattle.resolvo.specs.RuleClauses.{HasCode, IsClauseOf, IsLiteralOf, Line, all_lines, atom, bit_lines, condition_lines, lines_of, list_atoms, member_lines}
+use Rattle.resolvo.specs.RuleClauses.{HasCode, IsClauseOfLine, IsLiteralOf, Line, all_lines, bit_lines, condition_lines, line_atom, list_atoms, rule_lines}
+use Rattle.resolvo.specs.RuleClauses.{member_lines}
 use Rattle.resolvo.specs.RuleClauses.{plain}
 use Rattle.resolvo.specs.declared.minimal.rule_clauses.Atom.{Atom}
 use Rattle.resolvo.specs.declared.minimal.rule_clauses.Proposition.{Proposition}
@@ -63,45 +64,47 @@ literals_next {N} {S} old new atoms literals i a l before keeps below is has =
     subst Zip (sym taken) (zip_append (IsLiteralOf new) literals (l ∷ []) (take i atoms) (a ∷ [])
     (zip_weaker (IsLiteralOf old) (IsLiteralOf new) (IsLiteralOf-keeps old new keeps) literals (take i atoms) before) (has, tt))
 
-IsClauseOf-keeps : {N S : Type 0} (old new : List (Proposition N S)) → Keeps old new → (c : RuleClause) (l : Line N S) → IsClauseOf old c l → IsClauseOf new c l
-IsClauseOf-keeps old new keeps c l is = record {
+IsClauseOfLine-keeps : {N S : Type 0} (old new : List (Proposition N S)) → Keeps old new → (c : RuleClause) (l : Line N S) → IsClauseOfLine old c l →
+    IsClauseOfLine new c l
+IsClauseOfLine-keeps old new keeps c l is = record {
   rule = is.rule;
   literals = zip_weaker (IsLiteralOf old) (IsLiteralOf new) (IsLiteralOf-keeps old new keeps) c.literals.items l.atoms is.literals;
   is_requirement = is.is_requirement;
 }
 
-pub Adds-none : {N S : Type 0} (propositions : List (Proposition N S)) (clauses : List RuleClause) → Adds propositions propositions clauses clauses []
-Adds-none propositions clauses = record { keeps = Keeps-same propositions; added = []; is = sym (append-nil clauses); are = tt }
+pub AppendsLines-none : {N S : Type 0} (propositions : List (Proposition N S)) (clauses : List RuleClause) →
+    AppendsLines propositions propositions clauses clauses []
+AppendsLines-none propositions clauses = record { keeps = Keeps-same propositions; added = []; is = sym (append-nil clauses); are = tt }
 
-pub Adds-trans : {N S : Type 0} (old mid new : List (Proposition N S)) (one two three : List RuleClause) (ls ms : List (Line N S)) → Adds old mid one two ls →
-    Adds mid new two three ms → Adds old new one three (ls ++ ms)
-Adds-trans {N} {S} old mid new one two three ls ms first second = record {
+pub AppendsLines-trans : {N S : Type 0} (old mid new : List (Proposition N S)) (one two three : List RuleClause) (ls ms : List (Line N S)) →
+    AppendsLines old mid one two ls → AppendsLines mid new two three ms → AppendsLines old new one three (ls ++ ms)
+AppendsLines-trans {N} {S} old mid new one two three ls ms first second = record {
   keeps = Keeps-trans old mid new first.keeps second.keeps;
   added = first.added ++ second.added;
   is = second.is ∙ ap (λ cs. cs ++ second.added) first.is ∙ append_assoc one first.added second.added;
-  are = zip_append (IsClauseOf new) first.added second.added ls ms
-      (zip_weaker (IsClauseOf mid) (IsClauseOf new) (IsClauseOf-keeps mid new second.keeps) first.added ls first.are) second.are;
+  are = zip_append (IsClauseOfLine new) first.added second.added ls ms
+      (zip_weaker (IsClauseOfLine mid) (IsClauseOfLine new) (IsClauseOfLine-keeps mid new second.keeps) first.added ls first.are) second.are;
 }
 
 -- the clauses of one more element
-Adds-next : {N S X : Type 0} (f : X → Line N S) (old mid new : List (Proposition N S)) (one two three : List RuleClause) (xs : List X) (i : ℕ) (x : X)
+AppendsLines-next : {N S X : Type 0} (f : X → Line N S) (old mid new : List (Proposition N S)) (one two three : List RuleClause) (xs : List X) (i : ℕ) (x : X)
     (l : Line N S) →
-    Adds old mid one two (map f (take i xs)) → i < length xs → x ≡ get_or xs i x → l ≡ f x → Adds mid new two three (l ∷ []) →
-    Adds old new one three (map f (take (i + 1) xs))
-Adds-next {N} {S} {X} f old mid new one two three xs i x l before below is same more =
-    let P : List (Line N S) → Type 0 = λ ls. Adds old new one three ls in
+    AppendsLines old mid one two (map f (take i xs)) → i < length xs → x ≡ get_or xs i x → l ≡ f x → AppendsLines mid new two three (l ∷ []) →
+    AppendsLines old new one three (map f (take (i + 1) xs))
+AppendsLines-next {N} {S} {X} f old mid new one two three xs i x l before below is same more =
+    let P : List (Line N S) → Type 0 = λ ls. AppendsLines old new one three ls in
     let taken : map f (take (i + 1) xs) ≡ map f (take i xs) ++ l ∷ [] = ap (map f) (take_more xs i x below) ∙ map-append f (take i xs) (get_or xs i x ∷ []) ∙
     ap (λ y. map f (take i xs) ++ y ∷ []) (sym (same ∙ ap f is)) in
-    subst P (sym taken) (Adds-trans old mid new one two three (map f (take i xs)) (l ∷ []) before more)
+    subst P (sym taken) (AppendsLines-trans old mid new one two three (map f (take i xs)) (l ∷ []) before more)
 
 -- the clauses of one more member
 pub members_next : {N S : Type 0} (old mid new : List (Proposition N S)) (one two three : List RuleClause) (rule list : ℕ) (xs : List S) (i : ℕ) (x : S) →
-    Adds old mid one two (member_lines rule list (take i xs)) → i < length xs → x ≡ get_or xs i x →
-    Adds mid new two three (plain rule (atom (Member x) false ∷ atom (Listed rule list) true ∷ []) ∷ []) →
-    Adds old new one three (member_lines rule list (take (i + 1) xs))
+    AppendsLines old mid one two (member_lines rule list (take i xs)) → i < length xs → x ≡ get_or xs i x →
+    AppendsLines mid new two three (plain rule (line_atom (Member x) false ∷ line_atom (Listed rule list) true ∷ []) ∷ []) →
+    AppendsLines old new one three (member_lines rule list (take (i + 1) xs))
 members_next old mid new one two three rule list xs i x before below is more =
-    Adds-next (λ s. plain rule (atom (Member s) false ∷ atom (Listed rule list) true ∷ [])) old mid new one two three xs i x
-    (plain rule (atom (Member x) false ∷ atom (Listed rule list) true ∷ [])) before below is refl more
+    AppendsLines-next (λ s. plain rule (line_atom (Member s) false ∷ line_atom (Listed rule list) true ∷ [])) old mid new one two three xs i x
+    (plain rule (line_atom (Member x) false ∷ line_atom (Listed rule list) true ∷ [])) before below is refl more
 
 condition_lines-append : {N S : Type 0} (rule list : ℕ) (xs ys : List (Vec S Global)) →
     condition_lines {N = N} rule list (xs ++ ys) ≡ condition_lines rule list xs ++ condition_lines rule (list + length xs) ys
@@ -116,17 +119,18 @@ condition_lines-append {N} {S} rule list (x ∷ xs) ys =
 -- the clauses of one more list
 pub condition_next : {N S : Type 0} (old mid new : List (Proposition N S)) (one two three : List RuleClause) (rule : ℕ) (xs : List (Vec S Global)) (i : ℕ)
     (x : Vec S Global) →
-    Adds old mid one two (condition_lines rule 0 (take i xs)) → i < length xs → x ≡ get_or xs i x → Adds mid new two three (member_lines rule i x.items) →
-    Adds old new one three (condition_lines rule 0 (take (i + 1) xs))
+    AppendsLines old mid one two (condition_lines rule 0 (take i xs)) → i < length xs → x ≡ get_or xs i x →
+        AppendsLines mid new two three (member_lines rule i x.items) →
+    AppendsLines old new one three (condition_lines rule 0 (take (i + 1) xs))
 condition_next {N} {S} old mid new one two three rule xs i x before below is more =
-    let P : List (Line N S) → Type 0 = λ ls. Adds old new one three ls in
+    let P : List (Line N S) → Type 0 = λ ls. AppendsLines old new one three ls in
     let one_more : take (i + 1) xs ≡ take i xs ++ x ∷ [] = take_more xs i x below ∙ ap (λ r. take i xs ++ r ∷ []) (sym is) in
     let size : length (take i xs) ≡ i = length-take-le i xs (omega (arith, below)) in
     let taken : condition_lines {N = N} rule 0 (take (i + 1) xs) ≡ condition_lines rule 0 (take i xs) ++ member_lines rule i x.items =
     ap (λ ls. condition_lines {N = N} rule 0 ls) one_more ∙ condition_lines-append rule 0 (take i xs) (x ∷ []) ∙
     ap (λ n. condition_lines {N = N} rule 0 (take i xs) ++ condition_lines {N = N} rule n (x ∷ [])) (omega (arith, size)) ∙
     ap (λ ls. condition_lines {N = N} rule 0 (take i xs) ++ ls) (append-nil (member_lines {N = N} rule i x.items)) in
-    subst P (sym taken) (Adds-trans old mid new one two three (condition_lines rule 0 (take i xs)) (member_lines rule i x.items) before more)
+    subst P (sym taken) (AppendsLines-trans old mid new one two three (condition_lines rule 0 (take i xs)) (member_lines rule i x.items) before more)
 
 all_lines-append : {N S : Type 0} (width place : ℕ) (rules more : List (Rule N S)) (codes others : List ℕ) → length rules ≡ length codes →
     all_lines width place (rules ++ more) (codes ++ others) ≡ all_lines width place rules codes ++ all_lines width (place + length rules) more others
@@ -134,55 +138,59 @@ all_lines-append width place [] more [] others same = ap (λ n. all_lines width 
 all_lines-append width place [] more (code ∷ codes) others same = absurd (omega (arith, same))
 all_lines-append width place (rule ∷ rules) more [] others same = absurd (omega (arith, same))
 all_lines-append width place (rule ∷ rules) more (code ∷ codes) others same =
-    ap (λ ls. lines_of width place code rule ++ ls)
+    ap (λ ls. rule_lines width place code rule ++ ls)
     (all_lines-append width (suc place) rules more codes others (omega (arith, same)) ∙
     ap (λ n. all_lines width (suc place) rules codes ++ all_lines width n more others) (omega arith))
-    ∙ sym (append_assoc (lines_of width place code rule) (all_lines width (suc place) rules codes)
+    ∙ sym (append_assoc (rule_lines width place code rule) (all_lines width (suc place) rules codes)
     (all_lines width (place + length (rule ∷ rules)) more others))
 
 -- the clauses of one more rule
 pub rules_next : {N S : Type 0} (old mid new : List (Proposition N S)) (one two three : List RuleClause) (width : ℕ) (rules : List (Rule N S)) (codes : List ℕ)
     (i : ℕ) (rule : Rule N S) (d : ℕ) →
-    length rules ≡ length codes → Adds old mid one two (all_lines width 0 (take i rules) (take i codes)) → i < length rules → rule ≡ get_or rules i rule →
-    Adds mid new two three (lines_of width i (get_or codes i d) rule) → Adds old new one three (all_lines width 0 (take (i + 1) rules) (take (i + 1) codes))
+    length rules ≡ length codes → AppendsLines old mid one two (all_lines width 0 (take i rules) (take i codes)) → i < length rules →
+        rule ≡ get_or rules i rule →
+    AppendsLines mid new two three (rule_lines width i (get_or codes i d) rule) →
+        AppendsLines old new one three (all_lines width 0 (take (i + 1) rules) (take (i + 1) codes))
 rules_next {N} {S} old mid new one two three width rules codes i rule d same before below is more =
-    let P : List (Line N S) → Type 0 = λ ls. Adds old new one three ls in
+    let P : List (Line N S) → Type 0 = λ ls. AppendsLines old new one three ls in
     let code : ℕ = get_or codes i d in
     let rule_more : take (i + 1) rules ≡ take i rules ++ rule ∷ [] = take_more rules i rule below ∙ ap (λ r. take i rules ++ r ∷ []) (sym is) in
     let code_more : take (i + 1) codes ≡ take i codes ++ code ∷ [] = take_more codes i d (omega (arith, same, below)) in
     let size : length (take i rules) ≡ i = length-take-le i rules (omega (arith, below)) in
     let size_codes : length (take i codes) ≡ i = length-take-le i codes (omega (arith, same, below)) in
-    let taken : all_lines width 0 (take (i + 1) rules) (take (i + 1) codes) ≡ all_lines width 0 (take i rules) (take i codes) ++ lines_of width i code rule =
+    let taken : all_lines width 0 (take (i + 1) rules) (take (i + 1) codes) ≡ all_lines width 0 (take i rules) (take i codes) ++ rule_lines width i code rule =
     ap (λ rs. all_lines width 0 rs (take (i + 1) codes)) rule_more ∙ ap (λ cs. all_lines width 0 (take i rules ++ rule ∷ []) cs) code_more ∙
     all_lines-append width 0 (take i rules) (rule ∷ []) (take i codes) (code ∷ []) (size ∙ sym size_codes)
     ∙ ap (λ n. all_lines width 0 (take i rules) (take i codes) ++ all_lines width n (rule ∷ []) (code ∷ [])) (omega (arith, size)) ∙
-    ap (λ ls. all_lines width 0 (take i rules) (take i codes) ++ ls) (append-nil (lines_of width i code rule)) in
-    subst P (sym taken) (Adds-trans old mid new one two three (all_lines width 0 (take i rules) (take i codes)) (lines_of width i code rule) before more)
+    ap (λ ls. all_lines width 0 (take i rules) (take i codes) ++ ls) (append-nil (rule_lines width i code rule)) in
+    subst P (sym taken) (AppendsLines-trans old mid new one two three (all_lines width 0 (take i rules) (take i codes))
+        (rule_lines width i code rule) before more)
 
 -- the clause of one more bit
 pub bits_next : {N S : Type 0} (old mid new : List (Proposition N S)) (one two three : List RuleClause) (rule : ℕ) (name : N) (instance : S) (code i : ℕ)
     (digit : Bool) →
-    Adds old mid one two (bit_lines rule name instance code i) → digit ≡ bit code i →
-    Adds mid new two three (plain rule (atom (Member instance) false ∷ atom (Bit name i) digit ∷ []) ∷ []) →
-    Adds old new one three (bit_lines rule name instance code (i + 1))
+    AppendsLines old mid one two (bit_lines rule name instance code i) → digit ≡ bit code i →
+    AppendsLines mid new two three (plain rule (line_atom (Member instance) false ∷ line_atom (Bit name i) digit ∷ []) ∷ []) →
+    AppendsLines old new one three (bit_lines rule name instance code (i + 1))
 bits_next {N} {S} old mid new one two three rule name instance code i digit before is more =
-    let P : Bool → Type 0 = λ b. Adds mid new two three (plain rule (atom (Member instance) false ∷ atom (Bit name i) b ∷ []) ∷ []) in
-    let Q : ℕ → Type 0 = λ n. Adds old new one three (bit_lines rule name instance code n) in
+    let P : Bool → Type 0 = λ b. AppendsLines mid new two three (plain rule (line_atom (Member instance) false ∷ line_atom (Bit name i) b ∷ []) ∷ []) in
+    let Q : ℕ → Type 0 = λ n. AppendsLines old new one three (bit_lines rule name instance code n) in
     let next : suc i ≡ i + 1 = omega arith in
-    subst Q next (Adds-trans old mid new one two three (bit_lines rule name instance code i)
-    (plain rule (atom (Member instance) false ∷ atom (Bit name i) (bit code i) ∷ []) ∷ []) before (subst P is more))
+    subst Q next (AppendsLines-trans old mid new one two three (bit_lines rule name instance code i)
+    (plain rule (line_atom (Member instance) false ∷ line_atom (Bit name i) (bit code i) ∷ []) ∷ []) before (subst P is more))
 
 -- the atom of one more list
-pub lists_next : {N S : Type 0} (start now next : List (Atom N S)) (rule i : ℕ) → now ≡ start ++ list_atoms rule i → next ≡ now ++ atom (Listed rule i) false ∷
+pub lists_next : {N S : Type 0} (start now next : List (Atom N S)) (rule i : ℕ) → now ≡ start ++ list_atoms rule i →
+    next ≡ now ++ line_atom (Listed rule i) false ∷
     [] → next ≡ start ++ list_atoms rule (i + 1)
 lists_next {N} {S} start now next rule i before is =
-    let last : List (Atom N S) = atom (Listed rule i) false ∷ [] in
+    let last : List (Atom N S) = line_atom (Listed rule i) false ∷ [] in
     let more : suc i ≡ i + 1 = omega arith in
     is ∙ ap (λ as'. as' ++ last) before ∙ append_assoc start (list_atoms rule i) last ∙ ap (λ n. start ++ list_atoms rule n) more
 
 -- an empty list of clauses to which these were added
-pub Adds-zip : {N S : Type 0} (old new : List (Proposition N S)) (before after : List RuleClause) (lines : List (Line N S)) → before ≡ [] →
-    Adds old new before after lines → AllZip (IsClauseOf new) after lines
-Adds-zip {N} {S} old new before after lines none adds =
-    let Zip : List RuleClause → Type 0 = λ cs. AllZip (IsClauseOf new) cs lines in
+pub AppendsLines-zip : {N S : Type 0} (old new : List (Proposition N S)) (before after : List RuleClause) (lines : List (Line N S)) → before ≡ [] →
+    AppendsLines old new before after lines → AllZip (IsClauseOfLine new) after lines
+AppendsLines-zip {N} {S} old new before after lines none adds =
+    let Zip : List RuleClause → Type 0 = λ cs. AllZip (IsClauseOfLine new) cs lines in
     subst Zip (sym (adds.is ∙ ap (λ cs. cs ++ adds.added) none)) adds.are

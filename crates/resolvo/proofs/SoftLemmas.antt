@@ -45,7 +45,7 @@ use Rattle.resolver_encoding.proofs.EncodingLemmas.{Extends-same, Extends-trans,
 use Rattle.resolver_encoding.proofs.LeftOutLemmas.{left_out_more, left_out_nowhere, spares_exempting, spares_present}
 use Rattle.resolver_encoding.proofs.TrailLemmas.{before_extends, follows_still, none_at, same_before, same_origin}
 use Rattle.resolvo.specs.ClauseSearches.{IsConsistent, IsRootTurn, KeepsLoaded, KeepsBookmark, KeepsTurn, base_of, held_of, kept_of, trail_of}
-use Rattle.resolvo.specs.RoundStates.{AreAtRest, AreRounds, GoesOn, HasAssumed, HasBookmark, HasTurned, IsAnswering, IsFollowing, IsBetween, IsRefusing, IsSearchOf}
+use Rattle.resolvo.specs.RoundStates.{AreAtRest, AreRounds, GoesOn, HasAssumed, HasBookmark, HasTurned, IsAnswering, IsFollowingFrom, IsBetween, IsRefusing, IsSearchOf}
 use Rattle.resolvo.specs.RoundStates.{IsStanding, IsStill, IsTurned, IsUnanswered, is_accepted, is_refused, was_chosen, chosen_of}
 use Rattle.resolvo.specs.RoundStates.{notes_of}
 use Rattle.resolvo.specs.declared.clause_search.ClauseSearch.{ClauseSearch}
@@ -351,7 +351,7 @@ module _ {N S : Type 0} where
 
   -- a list that follows the trail again, without new elements
   pub rounds_followed : (u : Universe N S) (before old new : Rounds N S) (from : ℕ) → AreRounds u before → old.encoding ≡ before.encoding →
-      IsFollowing old new from → IsWithin (chosen_of new) (chosen_of before) → AreRounds u new
+      IsFollowingFrom old new from → IsWithin (chosen_of new) (chosen_of before) → AreRounds u new
   rounds_followed u before old new from rounds same following within =
       let encoding : before.encoding ≡ new.encoding = sym (following.encoding ∙ same) in
       let Read : Encoding N S → Type 0 = λ e. IsReadSoFar u rounds.reading.root (chosen_of new) (notes_in e) in

@@ -12,7 +12,7 @@ use Rattle.std.proofs.lemmas.Option.{none-some, same_Some, slice_get-get_or}
 use Rattle.resolver_clause_store.specs.Formula.{clause_true, literal_true}
 use Rattle.resolver_clause_store.specs.Laws.{IsIdentity}
 use Rattle.resolver_clause_store.specs.Lists.{Meets}
-use Rattle.resolver_clause_store.specs.Statements.{lists_of, statement_of, IsPresent, AllMeet, ObeysAlone}
+use Rattle.resolver_clause_store.specs.Statements.{statement_of, IsPresent, AllMeet, ObeysAlone}
 use Rattle.resolver_clause_store.specs.Rules.{Obeys}
 use Rattle.resolver_clause_store.specs.declared.By.{By}
 use Rattle.resolver_clause_store.specs.declared.By.TheVariants.{Root, Solvable}
@@ -21,15 +21,16 @@ use Rattle.resolver_clause_store.specs.declared.Rule.{Rule}
 use Rattle.resolver_clause_store.specs.declared.Rule.TheVariants.{Requires, Constrains, Lock, Excluded, OnePerPackage}
 use Rattle.resolvo.proofs.LineLemmas.{All-each, marked_in, zip_both, bit_line_from, member_line_from, line_from, rule_of_line}
 use Rattle.resolver_encoding.specs.Codes.{bit}
-use Rattle.resolvo.specs.Minimal.{marked}
-use Rattle.resolvo.specs.RuleClauses.{Line, atom, plain, requirement_line, requirer_atoms, list_atoms, candidate_atoms, condition_lines, lines_of}
-use Rattle.resolvo.specs.RuleClauses.{all_lines, IsLiteralOf, IsClauseOf, HasCode, AreClausesOf, MakesMarkedTrue}
+use Rattle.resolvo.specs.Minimal.{only_marked}
+use Rattle.resolvo.specs.RuleClauses.{Line, line_atom, plain, requirement_line, requirer_atoms, list_atoms, candidate_atoms, condition_lines, rule_lines}
+use Rattle.resolvo.specs.RuleClauses.{all_lines, IsLiteralOf, IsClauseOfLine, HasCode, AreClausesOf, MakesMarkedTrue}
 use Rattle.resolvo.specs.declared.minimal.rule_clauses.Atom.{Atom}
 use Rattle.resolvo.specs.declared.minimal.rule_clauses.Proposition.{Proposition}
 use Rattle.resolvo.specs.declared.minimal.rule_clauses.Proposition.TheVariants.{Member, Listed, Bit}
 use Rattle.resolver_clause_store.proofs.BoolLemmas.{beq-false as other_value}
 use Rattle.resolver_clause_store.proofs.ListLemmas.{Contains-cons_cases as cons_cases, Contains-none as none_in, list_any-contains as any_of, AllZip-left}
 use Rattle.resolver_clause_store.proofs.ListLemmas.{list_any-witness as any_from}
+use Rattle.resolver_clause_store.specs.NumberedLists.{items_of}
 use Rattle.resolvo.specs.declared.minimal.rule_clauses.RuleClause.{RuleClause}
 
 -- whether the list of the rule with this number has a member that passes
@@ -157,7 +158,7 @@ module _ {N S : Type 0} (value : Proposition N S → Bool) where
   false_lists : (rule n : ℕ) → None_of (list_atoms rule n) → (j : ℕ) → j < n → value (Listed rule j) ≡ true
   false_lists rule zero h j below = absurd (omega (arith, below))
   false_lists rule (suc n) h j below =
-      let parts = false_parts (list_atoms rule n) (atom (Listed rule n) false ∷ []) h in
+      let parts = false_parts (list_atoms rule n) (line_atom (Listed rule n) false ∷ []) h in
       let On : ℕ → Type 0 = λ k. value (Listed rule k) ≡ true in
       ⊎_elim
       (λ (less : j < n). false_lists rule n parts.0 j less)
@@ -197,7 +198,7 @@ value_in names solvables set marks rules codes (Bit name index) = some_bit (name
 
 module _ {N S : Type 0} (names : N → N → Bool) (solvables : S → S → Bool) (same_names : IsIdentity names) (same_solvables : IsIdentity solvables)
     (rules : List (Rule N S)) (propositions : List (Proposition N S)) (clauses : List RuleClause) (are : AreClausesOf rules propositions clauses)
-    (marks : List Bool) (set : List S) (obeys : Obeys set (marked marks rules)) where
+    (marks : List Bool) (set : List S) (obeys : Obeys set (only_marked marks rules)) where
   abbrev value : Proposition N S → Bool
   value p = value_in names solvables set marks rules are.codes p
 
@@ -225,7 +226,7 @@ module _ {N S : Type 0} (names : N → N → Bool) (solvables : S → S → Bool
   passes o = option_map_or (λ (one : Vec S Global). list_any has one.items) o false
 
   -- lists with true variables have members in the set
-  lists_meet : (lists : List (Vec S Global)) → ((j : ℕ) → j < length lists → passes (slice_get lists j) ≡ true) → AllMeet set (lists_of lists)
+  lists_meet : (lists : List (Vec S Global)) → ((j : ℕ) → j < length lists → passes (slice_get lists j) ≡ true) → AllMeet set (items_of lists)
   lists_meet lists on = All-map (λ xs. Meets xs set) (λ (list : Vec S Global). list.items) lists (λ k d below.
       let one : Vec S Global = get_or lists k d in
       let is : passes (slice_get lists k) ≡ list_any has one.items = ap passes (slice_get-get_or lists k d below) in
@@ -245,7 +246,7 @@ module _ {N S : Type 0} (names : N → N → Bool) (solvables : S → S → Bool
 
     requirement_line_is : (by : By S) (candidates : Vec S Global) (lists : List (Vec S Global)) →
         ((j : ℕ) → value (Listed place j) ≡ passes (slice_get lists j)) →
-        (IsPresent by set → AllMeet set (lists_of lists) → Meets candidates.items set) →
+        (IsPresent by set → AllMeet set (items_of lists) → Meets candidates.items set) →
         None_true (requirer_atoms by ++ (list_atoms place (length lists) ++ candidate_atoms candidates.items)) → ⊥
     requirement_line_is by candidates lists is alone wrong =
         let first = false_parts value (requirer_atoms by) (list_atoms place (length lists) ++ candidate_atoms candidates.items) wrong in
@@ -276,7 +277,7 @@ module _ {N S : Type 0} (names : N → N → Bool) (solvables : S → S → Bool
         (λ (off : bit code i ≡ false).
         let w = some_bit_from (names name) has i marks rules are.codes (subst Value off is) in
         let same_name : name ≡ w.name = same_names.alone name w.name w.is_named in
-        let At : N → Type 0 = λ n. Contains (marked marks rules) (OnePerPackage n w.instance) in
+        let At : N → Type 0 = λ n. Contains (only_marked marks rules) (OnePerPackage n w.instance) in
         let other : At name = subst At (sym same_name) (marked_in marks rules w.place (OnePerPackage w.name w.instance) w.mark w.at) in
         let same : instance ≡ w.instance =
         obeys.one_each name instance w.instance (marked_in marks rules place (OnePerPackage name instance) mark at) other (in_set instance there_it)
@@ -290,7 +291,7 @@ module _ {N S : Type 0} (names : N → N → Bool) (solvables : S → S → Bool
         (cases_Bool (bit code i))
 
     line_true : (rule : Rule N S) → slice_get rules place ≡ Some rule → slice_get are.codes place ≡ Some code → (line : Line N S) →
-        Contains (lines_of are.width place code rule) line → None_true line.atoms → ⊥
+        Contains (rule_lines are.width place code rule) line → None_true line.atoms → ⊥
     line_true (Requires by requirement candidates when) at coded line inside wrong =
         let first : Line N S = requirement_line place (requirer_atoms by ++ (list_atoms place (length when.items) ++ candidate_atoms candidates.items)) in
         let Wrong : Line N S → Type 0 = λ (l : Line N S). None_true l.atoms in
@@ -300,14 +301,14 @@ module _ {N S : Type 0} (names : N → N → Bool) (solvables : S → S → Bool
         (λ (later : Contains (condition_lines place 0 when.items) line). member_line_true when.items (λ j. listed_is place j rule at) line later wrong)
         (cons_cases first (condition_lines place 0 when.items) line inside)
     line_true (Constrains by version_set candidate) at coded line inside wrong =
-        only_line (plain place (requirer_atoms by ++ atom (Member candidate) false ∷ [])) line
-        (λ h. let parts = false_parts value (requirer_atoms by) (atom (Member candidate) false ∷ []) h in
+        only_line (plain place (requirer_atoms by ++ line_atom (Member candidate) false ∷ [])) line
+        (λ h. let parts = false_parts value (requirer_atoms by) (line_atom (Member candidate) false ∷ []) h in
         obeyed (Constrains by version_set candidate) at (present by parts.0) (in_set candidate parts.1.0))
         inside wrong
     line_true (Lock locked forbidden) at coded line inside wrong =
-        only_line (plain place (atom (Member forbidden) false ∷ [])) line (λ h. obeyed (Lock locked forbidden) at (in_set forbidden h.0)) inside wrong
+        only_line (plain place (line_atom (Member forbidden) false ∷ [])) line (λ h. obeyed (Lock locked forbidden) at (in_set forbidden h.0)) inside wrong
     line_true (Excluded solvable reason) at coded line inside wrong =
-        only_line (plain place (atom (Member solvable) false ∷ [])) line (λ h. obeyed (Excluded solvable reason) at (in_set solvable h.0)) inside wrong
+        only_line (plain place (line_atom (Member solvable) false ∷ [])) line (λ h. obeyed (Excluded solvable reason) at (in_set solvable h.0)) inside wrong
     line_true (OnePerPackage name instance) at coded line inside wrong =
         let w = bit_line_from place name instance code are.width line inside in
         let Wrong : Line N S → Type 0 = λ (l : Line N S). None_true l.atoms in
@@ -319,10 +320,10 @@ module _ {N S : Type 0} (names : N → N → Bool) (solvables : S → S → Bool
     values_of value propositions,
     All-each (λ (clause : RuleClause).
         slice_index_or marks clause.rule false ≡ true → clause_true (values_of value propositions) clause.literals.items ≡ true) clauses (λ clause inside mark.
-        let w = AllZip-left (IsClauseOf propositions) clauses (all_lines are.width 0 rules are.codes) are.lines clause inside in
+        let w = AllZip-left (IsClauseOfLine propositions) clauses (all_lines are.width 0 rules are.codes) are.lines clause inside in
         let at = line_from are.width 0 rules are.codes w.0 w.1 in
         let same : 0 + at.index ≡ at.index = omega arith in
-        let Has : ℕ → Type 0 = λ p. Contains (lines_of are.width p at.code at.rule) w.0 in
+        let Has : ℕ → Type 0 = λ p. Contains (rule_lines are.width p at.code at.rule) w.0 in
         let line : Has at.index = subst Has same at.inside in
         let is_rule : clause.rule ≡ at.index = w.2.rule ∙ rule_of_line are.width at.index at.code at.rule w.0 line in
         let Marked : ℕ → Type 0 = λ p. slice_index_or marks p false ≡ true in

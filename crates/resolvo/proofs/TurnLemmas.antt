@@ -24,7 +24,7 @@ use Rattle.resolvo.specs.ClauseSearches.{IsConsistent, IsLoaded, IsRefused, IsTu
 use Rattle.resolvo.specs.Derivations.{AreGiven, IsDerived}
 use Rattle.resolvo.specs.Propagators.{IsPropagator}
 use Rattle.resolvo.specs.declared.propagator.Propagator.{Propagator}
-use Rattle.resolvo.specs.Propagation.{AreChosen, AssumesNone, Extends, IsJustified}
+use Rattle.resolvo.specs.Propagation.{AreChosen, AssumesNone, ExtendsTrail, IsJustified}
 use Rattle.resolvo.specs.WatchedClauses.{AreInLists}
 use Rattle.resolvo.specs.Resolvents.{IsAsserting, IsFalseAt, IsLearnt, level_in}
 use Rattle.resolvo.proofs.PropagatorLemmas.{propagator-gains}
@@ -79,7 +79,7 @@ none-undone old new level undone = record { was = λ v s at reason. (undone.stay
 pub none-grown : (old new : Trail) (variables : ℕ) → IsGrown old new variables → AssumesNone old new
 none-grown old new variables grown = record { was = λ v s at reason. sym (grown.slots v) ∙ at }
 
-pub none-extends : (old new : Trail) → Extends old new → AssumesNone old new
+pub none-extends : (old new : Trail) → ExtendsTrail old new → AssumesNone old new
 none-extends old new extends =
     record { was = λ v s at reason. ⊎_elim (λ was. was) (λ forced. absurd (both_ways _ forced (ap is_decided reason))) (extends.only v s at) }
 

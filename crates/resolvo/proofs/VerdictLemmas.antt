@@ -20,7 +20,7 @@ use Rattle.resolver_clause_store.proofs.FormulaLemmas.{clause_at-past, false-con
 use Rattle.resolvo.specs.MarkedClauses.{AreMarkedClauses, AreMarksOf}
 use Rattle.resolvo.specs.ClauseSearches.{IsRootTurn, KeepsTurn, numbers_of}
 use Rattle.resolvo.specs.declared.clause_search.ClauseSearch.{ClauseSearch}
-use Rattle.resolvo.specs.Minimal.{AreAmong, IsRefutedPart, marked}
+use Rattle.resolvo.specs.Minimal.{AreAmong, IsRefutedPart, only_marked}
 use Rattle.resolvo.specs.RuleClauses.{DecideRules, IsGuarded, MakesMarkedTrue}
 use Rattle.resolver_clause_store.proofs.ListLemmas.{Contains-here as first_in}
 use Rattle.resolvo.specs.declared.minimal.rule_clauses.RuleClause.{RuleClause}
@@ -116,7 +116,7 @@ finished_true marks from clauses places requirements trail are guarded finished 
 
 pub obeyed : {N S : Type 0} (rules : List (Rule N S)) (variables : ℕ) (marks : List Bool) (from : List RuleClause) (clauses : List (List Literal))
     (places : List ℕ) (requirements : List RequirementClause) (trail : Trail) → length marks ≡ length rules → DecideRules rules variables from →
-    AreMarkedClauses marks from clauses places (numbers_of requirements) → IsFinished clauses requirements trail → IsRefuted (marked marks rules) → ⊥
+    AreMarkedClauses marks from clauses places (numbers_of requirements) → IsFinished clauses requirements trail → IsRefuted (only_marked marks rules) → ⊥
 obeyed rules variables marks from clauses places requirements trail size decide are finished =
     decide.complete marks (value_of trail) size (finished_true marks from clauses places requirements trail are decide.guarded finished)
 

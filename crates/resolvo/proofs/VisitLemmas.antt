@@ -9,7 +9,7 @@ use Rattle.std.proofs.lemmas.List.Elements.{All-append, All-cons, All-nil, Conta
 use Rattle.std.proofs.lemmas.List.Quantifiers.{Any-push}
 use Rattle.std.proofs.lemmas.Option.{same_Some, none-some, slice_get_within, get_or_from_slice_get, slice_get-get_or}
 use Rattle.resolver_clause_store.specs.Slots.{is_decided}
-use Rattle.resolvo.specs.Propagation.{Extends, IsJustified, IsUnit, Propagates}
+use Rattle.resolvo.specs.Propagation.{ExtendsTrail, IsJustified, IsUnit, Propagates}
 use Rattle.resolver_clause_store.specs.Literals.{Literal, list_number}
 use Rattle.resolver_clause_store.specs.declared.Slot.{Slot}
 use Rattle.resolver_clause_store.specs.declared.Reason.TheVariants.{Forced}
@@ -20,9 +20,9 @@ use Rattle.resolver_clause_store.specs.TrailView.{slot_of, length_of, level_of, 
 use Rattle.resolver_clause_store.proofs.PlaceLemmas.{place_cases}
 use Rattle.resolver_clause_store.proofs.TrailLemmas.{Keeps, gains-cases, keeps-gains, value-true}
 use Rattle.resolver_clause_store.proofs.WatchListLemmas.{fit-at}
-use Rattle.resolvo.specs.Propagators.{AreLate, AreWatched, Covers, IsExcused, IsNoted, IsPropagator, IsTrueAt, IsTrueBefore, attached_of, head_of}
+use Rattle.resolvo.specs.Propagators.{AreLate, AreWatched, IsExcused, IsNoted, IsPropagator, IsTrueAt, IsTrueBefore, IsWatchInvariant, attached_of, head_of}
 use Rattle.resolvo.specs.Propagators.{late_of, pending_of}
-use Rattle.resolvo.specs.Visits.{GoesOn, IsPaired, IsPlaced, IsVisiting, Replaces, StandsAt, late_with, watchers_of}
+use Rattle.resolvo.specs.Visits.{ContinuesVisit, IsPaired, IsReplacement, IsVisiting, IsWatchPlaced, IsWatchedAt, late_with, watchers_of}
 use Rattle.resolver_clause_store.specs.Unsatisfied.{IsFirstUnsatisfied, IsNextUnsatisfied}
 use Rattle.resolver_clause_store.specs.Watches.{FitClauses, HasLiteral, IsPair, IsWatching, MovesWatch, SameClauses, WatchesNothing, list_at, pair_at}
 use Rattle.resolver_clause_store.specs.WatchesView.{lists_of, pairs_of}
@@ -132,7 +132,8 @@ excused-noted table trail old new pending level number more excused = ⊎_elim
     excused
 
 pub covers-noted : (table : List (List Literal)) (trail : Trail) (pairs : List WatchedPair) (old new : List Late) (pending : List ℕ) (head : ℕ) →
-    ((n : ℕ) → IsNoted old pending n → IsNoted new pending n) → Covers table trail pairs old pending head → Covers table trail pairs new pending head
+    ((n : ℕ) → IsNoted old pending n → IsNoted new pending n) → IsWatchInvariant table trail pairs old pending head →
+        IsWatchInvariant table trail pairs new pending head
 covers-noted table trail pairs old new pending head more covers = record {
   watched = λ number literal watching fails. excused-noted table trail old new pending _ number (more number) (covers.watched number literal watching fails);
   constant = λ number inside none. more number (covers.constant number inside none);
@@ -140,10 +141,10 @@ covers-noted table trail pairs old new pending head more covers = record {
 
 -- a clause that is passed by
 pub passes : (table : List (List Literal)) (trail : Trail) (old new : Propagator) (falsified : FalseLiteral) (place number : ℕ) →
-    IsVisiting table trail old falsified place → StandsAt (watchers_of old falsified.literal) place number → number < attached_of old →
+    IsVisiting table trail old falsified place → IsWatchedAt (watchers_of old falsified.literal) place number → number < attached_of old →
     IsSatisfied trail (clause_at table number) → new.watches ≡ old.watches → new.pending ≡ old.pending → new.head ≡ old.head →
     late_of new ≡ late_with (late_of old) falsified number (length_of trail) →
-    GoesOn table trail old new falsified place (place + 1)
+    ContinuesVisit table trail old new falsified place (place + 1)
 passes table trail old new falsified place number v stands inside satisfied watches pending head late =
     let made : Propagator = record { watches = old.watches; late = new.late; pending = old.pending; head = old.head } in
     let w = sym watches in
@@ -154,7 +155,7 @@ passes table trail old new falsified place number v stands inside satisfied watc
     let n = notes falsified.is_top table trail (late_of old) (late_of new) (pending_of old)
     (attached_of old) falsified.level number was.late was.inside inside satisfied v.fails.top late in
     let E : ℕ → Type 0 = λ m. IsExcused table trail (late_of new) (pending_of old) falsified.level m in
-    let G : Propagator → Type 0 = λ it. GoesOn table trail old it falsified place (place + 1) in
+    let G : Propagator → Type 0 = λ it. ContinuesVisit table trail old it falsified place (place + 1) in
     subst G same (record {
       visiting = record {
         below = v.below;
@@ -209,7 +210,7 @@ passes-satisfied table trail it falsified from place top first v = record {
 }
 
 -- a watch that stands in the list
-pub stands-placed : (watchers : List Watch) (placed : PlacedWatch) → IsPlaced watchers placed → StandsAt watchers placed.place placed.watch.number
+pub stands-placed : (watchers : List Watch) (placed : PlacedWatch) → IsWatchPlaced watchers placed → IsWatchedAt watchers placed.place placed.watch.number
 stands-placed watchers placed is = record { watch = placed.watch; is = is; named = refl }
 
 -- the next watcher to visit
@@ -230,13 +231,13 @@ next-placed trail it falsified from (Some placed) within is table v = subst (λ 
 
 pub is-unsatisfied : (trail : Trail) (watchers : List Watch) (from : ℕ) (result : Option PlacedWatch) →
     MatchOption result (IsFirstUnsatisfied trail watchers from (length watchers)) (IsNextUnsatisfied trail watchers from) →
-    IfSome result (λ placed. IsPlaced watchers placed × (from ≤ placed.place))
+    IfSome result (λ placed. IsWatchPlaced watchers placed × (from ≤ placed.place))
 is-unsatisfied trail watchers from None first = tt
 is-unsatisfied trail watchers from (Some placed) next = (next.is, next.first.above)
 
 pub is-placed : (watchers : List Watch) (from : ℕ) (result : Option PlacedWatch) →
     MatchOption result (length watchers ≤ from) (λ placed. (placed.place ≡ from) × (slice_get watchers from ≡ Some placed.watch)) →
-    IfSome result (λ placed. IsPlaced watchers placed × (from ≤ placed.place))
+    IfSome result (λ placed. IsWatchPlaced watchers placed × (from ≤ placed.place))
 is-placed watchers from None past = tt
 is-placed watchers from (Some placed) is = (ap (λ n. slice_get watchers n) is.0 ∙ is.1, omega (arith, is.0))
 
@@ -252,7 +253,7 @@ brought table trail it watches lists pairs is =
       pending = subst (λ (ps : List WatchedPair). All (λ n. n < length ps) (pending_of it)) (sym pairs) is.pending;
       inside = subst (λ (ps : List WatchedPair). All (λ (l : Late). l.number < length ps) (late_of it)) (sym pairs) is.inside;
       head = is.head;
-      covers = subst (λ (ps : List WatchedPair). Covers table trail ps (late_of it) (pending_of it) (head_of it)) (sym pairs) is.covers;
+      covers = subst (λ (ps : List WatchedPair). IsWatchInvariant table trail ps (late_of it) (pending_of it) (head_of it)) (sym pairs) is.covers;
     }
 
 -- a new blocker
@@ -264,7 +265,7 @@ sets table trail old watches falsified place v same pairs fit =
     let w = was.watched in
     let back = sym pairs in
     let A : List WatchedPair → Type 0 = λ ps. AreWatched table (lists_of watches) ps in
-    let C : List WatchedPair → Type 0 = λ ps. Covers table trail ps (late_of old) (pending_of old) (head_of old) in
+    let C : List WatchedPair → Type 0 = λ ps. IsWatchInvariant table trail ps (late_of old) (pending_of old) (head_of old) in
     let N : List WatchedPair → Type 0 = λ ps. All (λ (number : ℕ). number < length ps) (pending_of old) in
     let L : List WatchedPair → Type 0 = λ ps. All (λ (l : Late). l.number < length ps) (late_of old) in
     let E : ℕ → Type 0 = λ m. IsExcused table trail (late_of old) (pending_of old) falsified.level m in
@@ -288,8 +289,8 @@ sets table trail old watches falsified place v same pairs fit =
       };
     }
 
-pub stands-same : (old new : List (List Watch)) (list place number : ℕ) → SameClauses old new → StandsAt (list_at old list) place number →
-    StandsAt (list_at new list) place number
+pub stands-same : (old new : List (List Watch)) (list place number : ℕ) → SameClauses old new → IsWatchedAt (list_at old list) place number →
+    IsWatchedAt (list_at new list) place number
 stands-same old new list place number same stands =
     let inside : place < length (list_at new list) = omega (arith, slice_get_within (list_at old list) place stands.watch stands.is, same.count list) in
     let at = slice_get-get_or (list_at new list) place stands.watch inside in
@@ -347,8 +348,9 @@ paired pairs number literal found watching only =
 pub moves : (table : List (List Literal)) (trail : Trail) (old : Propagator) (watches : Watches) (falsified : FalseLiteral) (place number : ℕ)
     (other to : Literal) → IsVisiting table trail old falsified place →
     MovesWatch (lists_of old.watches) (lists_of watches) (pairs_of old.watches) (pairs_of watches) falsified.literal to place number →
-    FitClauses table (lists_of watches) → IsPaired (pairs_of old.watches) number falsified.literal other → Replaces trail (clause_at table number) other to →
-    place < length (watchers_of old falsified.literal) → GoesOn table trail old (with_watches old watches) falsified place place
+    FitClauses table (lists_of watches) → IsPaired (pairs_of old.watches) number falsified.literal other →
+        IsReplacement trail (clause_at table number) other to →
+    place < length (watchers_of old falsified.literal) → ContinuesVisit table trail old (with_watches old watches) falsified place place
 moves table trail old watches falsified place number other to v m fit p r within =
     let was = v.propagator in
     let w = was.watched in
@@ -462,7 +464,7 @@ other_value false false b is also = absurd cc
 
 pub visited : (table : List (List Literal)) (trail : Trail) (it : Propagator) (falsified : FalseLiteral) (count : ℕ) →
     IsVisiting table trail it falsified count → length (watchers_of it falsified.literal) ≤ count →
-    ((number : ℕ) → IsWatching (pairs_of it.watches) number falsified.literal → (place : ℕ) × StandsAt (watchers_of it falsified.literal) place number) →
+    ((number : ℕ) → IsWatching (pairs_of it.watches) number falsified.literal → (place : ℕ) × IsWatchedAt (watchers_of it falsified.literal) place number) →
     IsPropagator table trail (record { watches = it.watches; late = it.late; pending = it.pending; head = it.head + 1 })
 visited table trail it falsified count v all stands =
     let was = v.propagator in
@@ -514,10 +516,10 @@ tested-true (Some true) value test same = sym same
 tested-true (Some false) value test same = absurd cc
 
 -- a trail extends itself, and what extends a longer trail extends the first
-pub extends-same : (trail : Trail) → Extends trail trail
+pub extends-same : (trail : Trail) → ExtendsTrail trail trail
 extends-same trail = record { kept = λ variable slot at. at; only = λ variable slot at. inl at }
 
-pub extends-trans : (one two three : Trail) → Extends one two → Extends two three → Extends one three
+pub extends-trans : (one two three : Trail) → ExtendsTrail one two → ExtendsTrail two three → ExtendsTrail one three
 extends-trans one two three first second =
     record {
       kept = λ variable slot at. second.kept variable slot (first.kept variable slot at);

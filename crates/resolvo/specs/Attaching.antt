@@ -10,9 +10,9 @@ use Rattle.resolver_clause_store.specs.TrailView.{IsTop, KeepsPlaces, length_of,
 use Rattle.resolvo.specs.declared.propagator.Late.{Late}
 use Rattle.resolvo.specs.declared.propagator.Propagator.{Propagator}
 use Rattle.resolver_clause_store.specs.declared.WatchedPair.{WatchedPair}
-use Rattle.resolvo.specs.Propagation.{Extends, IsJustified}
+use Rattle.resolvo.specs.Propagation.{ExtendsTrail, IsJustified}
 use Rattle.resolver_clause_store.specs.Watches.{WatchesNothing}
-use Rattle.resolvo.specs.Propagators.{IsConstant, IsNoted, Follows, IsPropagator, pending_of}
+use Rattle.resolvo.specs.Propagators.{IsConstant, IsNoted, FollowsTrail, IsPropagator, pending_of}
 
 -- the new trail consists of first entries of the old one, and has with each entry all entries of its level and of lower
 -- levels
@@ -24,8 +24,8 @@ pub record IsLower (old new : Trail) : Type 0 where
       slot_of new other ≡ Some lower
 
 -- the noted lengths never fall
-abbrev pub IsRising : List Late → Type 0
-IsRising late = (k n : ℕ) (early later : Late) → k < n → slice_get late k ≡ Some early → slice_get late n ≡ Some later → early.length ≤ later.length
+abbrev pub HasRisingLengths : List Late → Type 0
+HasRisingLengths late = (k n : ℕ) (early later : Late) → k < n → slice_get late k ≡ Some early → slice_get late n ≡ Some later → early.length ≤ later.length
 
 -- The late clauses at the end become pending: those that were noted with more than `count` entries.
 pub record Recalls (old new : List Late) (pending more : List ℕ) (count : ℕ) : Type 0 where
@@ -33,7 +33,7 @@ pub record Recalls (old new : List Late) (pending more : List ℕ) (count : ℕ)
   pub late : old ≡ new ++ gone
   pub noted : (number : ℕ) → IsNoted old pending number → IsNoted new more number
   pub inside : (bound : ℕ) → All (λ (l : Late). l.number < bound) old → All (λ number. number < bound) pending → All (λ number. number < bound) more
-  pub within : IsRising old → All (λ (l : Late). l.length ≤ count) new
+  pub within : HasRisingLengths old → All (λ (l : Late). l.length ≤ count) new
 
 -- the literal is not false, or is false at the highest level
 abbrev pub IsHigh : Trail → Literal → Type 0
@@ -46,23 +46,23 @@ pub record IsHighPair (trail : Trail) (pair : WatchedPair) : Type 0 where
   pub second : IsHigh trail pair.second
 
 -- the literal does not become false before this place
-abbrev pub IsNotBefore : Trail → ℕ → Literal → Type 0
-IsNotBefore trail place literal = (slot : Slot) → slot_of trail literal.variable ≡ Some slot → beq slot.value literal.positive ≡ false → place ≤ slot.place
+abbrev pub IsNotFalseBefore : Trail → ℕ → Literal → Type 0
+IsNotFalseBefore trail place literal = (slot : Slot) → slot_of trail literal.variable ≡ Some slot → beq slot.value literal.positive ≡ false → place ≤ slot.place
 
 -- the number is the last
-pub record EndsWith (all : List ℕ) (number : ℕ) : Type 0 where
+pub record HasLast (all : List ℕ) (number : ℕ) : Type 0 where
   pub rest : List ℕ
   pub is : all ≡ rest ++ number ∷ []
 
 -- two different literals of the clause
-pub record AreApart (clause : List Literal) (first second : Literal) : Type 0 where
+pub record AreDistinctLiterals (clause : List Literal) (first second : Literal) : Type 0 where
   pub has_first : Contains clause first
   pub has_second : Contains clause second
   pub differ : first ≢ second
 
 -- the pair has two different literals of the clause, or none if the clause does not have two
 pub record IsPairOf (clause : List Literal) (pair : WatchedPair) : Type 0 where
-  pub own : pair.first ≢ pair.second → AreApart clause pair.first pair.second
+  pub own : pair.first ≢ pair.second → AreDistinctLiterals clause pair.first pair.second
   pub constant : WatchesNothing pair → IsConstant clause
 
 -- a literal of the clause that differs from the one at `other`, if that is given
@@ -82,7 +82,7 @@ AreAlike clause other count = (place : ℕ) → place < count → IsAlike clause
 -- the trail grew by literals that the clauses force
 pub record Forces (table : List (List Literal)) (old new : Trail) : Type 0 where
   pub justified : IsJustified table new
-  pub extends : Extends old new
+  pub extends : ExtendsTrail old new
   pub size : variable_count new ≡ variable_count old
   pub open_less : open_count new ≤ open_count old
 
@@ -92,7 +92,7 @@ Attaches trail clause old new = (table : List (List Literal)) → IsPropagator t
 
 -- the clause with this number, of which this holds, is no longer pending
 abbrev pub Pops : (Trail → List Literal → Type 0) → Trail → ℕ → Propagator → Propagator → Type 0
-Pops Is trail number old new = (table : List (List Literal)) → Is trail (clause_at table number) → Follows table trail trail old new
+Pops Is trail number old new = (table : List (List Literal)) → Is trail (clause_at table number) → FollowsTrail table trail trail old new
 
 -- one clause is no longer pending
 abbrev pub PopsOne : Propagator → Propagator → Type 0

@@ -53,20 +53,20 @@ abbrev pub stored_places : List StoredRequirement → List ℕ
 stored_places requirements = map (λ (requirement : StoredRequirement). requirement.number) requirements
 
 -- the place in the table of the given clause with this number
-abbrev pub place_of : List ℕ → ℕ → ℕ
-place_of places number = slice_index places number
+abbrev pub given_place : List ℕ → ℕ → ℕ
+given_place places number = slice_index places number
 
 -- the given clauses are in the table, each at its place
 pub record AreLoaded (given table : List (List Literal)) (sources : List Source) (places : List ℕ) : Type 0 where
   pub count : length places ≡ length given
-  pub placed : (number : ℕ) → number < length given → given_at sources (place_of places number) ≡ Some number
+  pub placed : (number : ℕ) → number < length given → given_at sources (given_place places number) ≡ Some number
   pub are : AreGiven given table sources
 
 -- The search was given these clauses, of which those with these numbers are requirement clauses. It decides exactly
 -- those, by their places.
 pub record IsLoaded (given : List (List Literal)) (numbers : List ℕ) (it : ClauseSearch) : Type 0 where
   pub clauses : AreLoaded given it.table it.sources it.places
-  pub requirements : stored_places it.requirements.items ≡ map (place_of it.places) numbers
+  pub requirements : stored_places it.requirements.items ≡ map (given_place it.places) numbers
   pub inside : All (λ number. number < length given) numbers
 
 -- The first entries of the trail are held: their levels are not above the base, so they stay when the levels above it
@@ -92,7 +92,7 @@ pub record IsConsistent (it : ClauseSearch) : Type 0 where
   pub queued : IsQueued it.queue it.trail it.table it.requirements.items
 
 -- the earlier clauses stay
-pub record Grows (old new : List (List Literal)) : Type 0 where
+pub record KeepsClauses (old new : List (List Literal)) : Type 0 where
   pub longer : length old ≤ length new
   pub same : (number : ℕ) → number < length old → clause_at new number ≡ clause_at old number
 

@@ -7,11 +7,12 @@ use Rattle.resolver_clause_store.specs.declared.Rule.{Rule}
 use Rattle.resolver_encoding.specs.Encodings.{IsEncoding, Notes}
 use Rattle.resolver_report.specs.ReachedRules.{IsKept}
 use Rattle.resolver_clause_store.specs.Rules.{IsRefuted}
-use Rattle.resolver_clause_store.specs.TrueRules.{IsTrueRule}
+use Rattle.resolver_clause_store.specs.Statements.{statement_of}
+use Rattle.resolver_clause_store.specs.TrueRules.{IsTrueStatement}
 
 -- the rules are true, no set obeys them together, and each is about what their requirements reach
 pub record Explains {N S : Type 0} (u : Universe N S) (root : Demands) (rules : List (Rule N S)) : Type 0 where
-  pub each_true : All (IsTrueRule u root) rules
+  pub each_true : All (λ rule. IsTrueStatement u root (statement_of rule)) rules
   pub refuted : IsRefuted rules
   pub each_reached : All (IsKept rules) rules
 

@@ -9,7 +9,7 @@ use Rattle.resolver_clause_store.specs.declared.RequirementClause.{RequirementCl
 use Rattle.resolver_clause_store.specs.declared.Rule.{Rule}
 use Rattle.resolver_clause_store.specs.declared.Trail.{Trail}
 use Rattle.resolvo.specs.ClauseSearches.{IsLoaded, numbers_of, trail_of}
-use Rattle.resolvo.specs.Minimal.{IsRefutedPart, marked}
+use Rattle.resolvo.specs.Minimal.{IsRefutedPart, only_marked}
 use Rattle.resolvo.specs.declared.clause_search.ClauseSearch.{ClauseSearch}
 use Rattle.resolvo.specs.declared.clause_search.Outcome.{Outcome}
 use Rattle.resolvo.specs.declared.clause_search.Outcome.TheVariants.{Finished, Contradiction, Refused}
@@ -70,5 +70,5 @@ HasEnded old new outcome = (given : List (List Literal)) (numbers : List ℕ) �
 
 -- some set obeys the marked rules, or no set obeys those with the part's marks
 abbrev pub VerdictIs : {N S : Type 0} → List (Rule N S) → List Bool → Verdict → Type 0
-VerdictIs rules marks (Obeyed values) = IsRefuted (marked marks rules) → ⊥
+VerdictIs rules marks (Obeyed values) = IsRefuted (only_marked marks rules) → ⊥
 VerdictIs rules marks (Refuted part) = IsRefutedPart rules marks part.items

@@ -4,7 +4,7 @@ use Rattle.std.proofs.Common.{arith}
 use Rattle.std.proofs.lemmas.List.Elements.{All-nil, All-contains}
 use Rattle.std.proofs.lemmas.List.Sorted.{IsPermutation-refl}
 use Rattle.resolver_clause_store.specs.Laws.{HasLawfulIds, HasLawfulPackages}
-use Rattle.resolver_clause_store.specs.Lists.{IsCut, cut_none, cut_left}
+use Rattle.resolver_clause_store.specs.Lists.{IsInterleaving, interleave_none, interleave_left}
 use Rattle.resolver_clause_store.specs.Universe.{Universe, hint_none, unknown}
 use Rattle.resolver_clause_store.specs.declared.Condition.TheVariants.{Requirement}
 
@@ -34,9 +34,9 @@ empty_ids_lawful = record { left_lower = λ i a b op e. absurd cc; right_lower =
 no_pairs : (xs : List ℕ) → length xs ≤ 1 → AllPairs ◌≢◌ xs
 no_pairs xs short = λ i j d before below same. omega arith
 
-all_left : (xs : List ℕ) → IsCut xs xs []
-all_left [] = cut_none
-all_left (x ∷ xs) = cut_left (all_left xs)
+all_left : (xs : List ℕ) → IsInterleaving xs xs []
+all_left [] = interleave_none
+all_left (x ∷ xs) = interleave_left (all_left xs)
 
 pub empty_packages_lawful : HasLawfulPackages empty_universe
 empty_packages_lawful = record {

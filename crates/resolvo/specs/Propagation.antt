@@ -57,14 +57,14 @@ pub record AreChosen (table : List (List Literal)) (requirements : List StoredRe
       IsDecidedFor table requirements trail variable slot
 
 -- all values stay, and no new variable is decided or assumed
-pub record Extends (old new : Trail) : Type 0 where
+pub record ExtendsTrail (old new : Trail) : Type 0 where
   pub kept : (variable : ℕ) (slot : Slot) → slot_of old variable ≡ Some slot → slot_of new variable ≡ Some slot
   pub only : (variable : ℕ) (slot : Slot) → slot_of new variable ≡ Some slot → (slot_of old variable ≡ Some slot) ⊎ (is_decided slot.reason ≡ false)
 
 -- what was forced is justified, all values stay, and each new entry of the trail gave a variable its value
 pub record Propagates (table : List (List Literal)) (old new : Trail) : Type 0 where
   pub justified : IsJustified table new
-  pub extends : Extends old new
+  pub extends : ExtendsTrail old new
   pub size : variable_count new ≡ variable_count old
   pub open_ones : open_count new ≤ open_count old
   pub total : open_count new + length_of new ≡ open_count old + length_of old

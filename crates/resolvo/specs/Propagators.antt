@@ -71,7 +71,8 @@ IsExcused table trail late pending level number =
     Any (IsTrueAt trail level) (clause_at table number) ⊎ IsNoted late pending number
 
 -- If a watched literal is false and has been propagated, its clause is true by a literal of no higher level, or it is noted.
-pub record Covers (table : List (List Literal)) (trail : Trail) (pairs : List WatchedPair) (late : List Late) (pending : List ℕ) (head : ℕ) : Type 0 where
+pub record IsWatchInvariant (table : List (List Literal)) (trail : Trail) (pairs : List WatchedPair) (late : List Late) (pending : List ℕ)
+    (head : ℕ) : Type 0 where
   pub watched : (number : ℕ) (literal : Literal) → IsWatching pairs number literal → (fails : IsFalseBefore trail head literal) →
       IsExcused table trail late pending fails.slot.level number
   pub constant : (number : ℕ) → number < length pairs → WatchesNothing (pair_at pairs number) → IsNoted late pending number
@@ -84,7 +85,7 @@ pub record IsPropagator (table : List (List Literal)) (trail : Trail) (it : Prop
   pub pending : All (λ number. number < attached_of it) (pending_of it)
   pub inside : All (λ (l : Late). l.number < attached_of it) (late_of it)
   pub head : head_of it ≤ length_of trail
-  pub covers : Covers table trail (pairs_of it.watches) (late_of it) (pending_of it) (head_of it)
+  pub covers : IsWatchInvariant table trail (pairs_of it.watches) (late_of it) (pending_of it) (head_of it)
 
 -- all clauses are attached, and none is pending
 pub record IsAttached (table : List (List Literal)) (it : Propagator) : Type 0 where
@@ -92,5 +93,5 @@ pub record IsAttached (table : List (List Literal)) (it : Propagator) : Type 0 w
   pub none : pending_of it ≡ []
 
 -- the propagator follows the trail
-abbrev pub Follows : List (List Literal) → Trail → Trail → Propagator → Propagator → Type 0
-Follows table before after old new = IsPropagator table before old → IsPropagator table after new
+abbrev pub FollowsTrail : List (List Literal) → Trail → Trail → Propagator → Propagator → Type 0
+FollowsTrail table before after old new = IsPropagator table before old → IsPropagator table after new

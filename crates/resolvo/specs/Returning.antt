@@ -4,7 +4,7 @@ use Rattle.resolver_clause_store.specs.Literals.{Literal}
 use Rattle.resolver_clause_store.specs.declared.Slot.{Slot}
 use Rattle.resolver_clause_store.specs.declared.Trail.{Trail}
 use Rattle.resolver_clause_store.specs.TrailView.{IsCut, IsUndone, length_of, slot_of}
-use Rattle.resolvo.specs.Propagators.{Follows}
+use Rattle.resolvo.specs.Propagators.{FollowsTrail}
 use Rattle.resolvo.specs.Resolvents.{level_in}
 use Rattle.resolvo.specs.declared.propagator.Propagator.{Propagator}
 
@@ -26,6 +26,6 @@ pub record TakesBack (old new : Trail) (clause : List Literal) (base : ℕ) : Ty
   pub undone : IsUndone old new level
 
 -- the propagator follows the trail to its first entries; if `began`, a level began right after them
-abbrev pub FollowsCut : Bool → Trail → Propagator → Propagator → Type 0
-FollowsCut began trail old new = (table : List (List Literal)) (before : Trail) (count : ℕ) → count ≤ length_of before →
-    (began ≡ true → BeginsLevel before count) → IsCut before trail count → Follows table before trail old new
+abbrev pub FollowsTrailCut : Bool → Trail → Propagator → Propagator → Type 0
+FollowsTrailCut began trail old new = (table : List (List Literal)) (before : Trail) (count : ℕ) → count ≤ length_of before →
+    (began ≡ true → BeginsLevel before count) → IsCut before trail count → FollowsTrail table before trail old new

@@ -11,11 +11,10 @@ use Rattle.resolver_clause_store.specs.Valid.{IsValid}
 use Rattle.resolver_clause_store.specs.declared.SoftRequirement.{SoftRequirement}
 use Rattle.resolver_clause_store.specs.declared.SoftRequirement.TheVariants.{Solvable as SoftSolvable}
 use Rattle.resolver_clause_store.specs.declared.VersionSetId.{VersionSetId}
-use Rattle.resolver_clause_store.specs.Variables.{Keeps, origins_in}
+use Rattle.resolver_clause_store.specs.Variables.{Keeps}
 use Rattle.resolver_clause_store.specs.TrailView.{Gains, IsCut, KeepsPlaces, length_of, level_of, slot_of, variable_at, variable_count}
 use Rattle.resolver_clause_store.specs.Universe.{Universe, Demands}
 use Rattle.resolver_clause_store.specs.Literals.{Literal}
-use Rattle.resolver_clause_store.specs.declared.ClauseKind.{ClauseKind}
 use Rattle.resolver_clause_store.specs.declared.Origin.{Origin}
 use Rattle.resolver_clause_store.specs.declared.Reason.TheVariants.{Assumed}
 use Rattle.resolver_clause_store.specs.declared.Slot.{Slot}
@@ -79,15 +78,9 @@ pub record HasAssumed (search : ClauseSearch) (variable : ℕ) : Type 0 where
   pub place : variable_at (trail_of search) (held_of search - 1) ≡ variable
 
 module _ {N S : Type 0} where
-  -- the notes of the encoding; what its variables stand for, and the kinds of its clauses; the chosen solvables; the search
+  -- the notes of the encoding; the chosen solvables; the search
   abbrev pub notes_of : Rounds N S → Notes N S
   notes_of r = notes_in r.encoding
-
-  abbrev pub origins_of : Rounds N S → List (Origin N S)
-  origins_of r = origins_in r.encoding.table.variables
-
-  abbrev pub kinds_of : Rounds N S → List (ClauseKind N S)
-  kinds_of r = r.encoding.table.kinds.items
 
   abbrev pub chosen_of : Rounds N S → List S
   chosen_of r = chosen_in r.chosen
@@ -103,7 +96,7 @@ module _ {N S : Type 0} where
   learnt_limit_of r = r.learnt_limit
 
   -- the limits are the same
-  pub record KeepsRoom (old new : Rounds N S) : Type 0 where
+  pub record KeepsRoundLimits (old new : Rounds N S) : Type 0 where
     pub notes : KeepsLimits (notes_of old) (notes_of new)
     pub clauses : new.clause_limit ≡ old.clause_limit
     pub learnt : new.learnt_limit ≡ old.learnt_limit
@@ -263,7 +256,7 @@ module _ {N S : Type 0} where
   KeepsEncoding old new = new.encoding ≡ old.encoding
 
   -- the same, with the length of the trail noted; the first `from` of the chosen solvables were chosen before
-  pub record IsFollowing (old new : Rounds N S) (from : ℕ) : Type 0 where
+  pub record IsFollowingFrom (old new : Rounds N S) (from : ℕ) : Type 0 where
     pub encoding : new.encoding ≡ old.encoding
     pub consistent : IsConsistent new.search
     pub loaded : IsUpToDate new

@@ -4,8 +4,8 @@ use Rattle.resolver_clause_store.specs.Universe.{Universe}
 use Rattle.resolver_clause_store.specs.Caches.{IsTrueCache}
 use Rattle.resolver_clause_store.specs.Variables.{AreDistinct}
 use Rattle.resolver_encoding.specs.SoFar.{left_count}
-use Rattle.resolvo.specs.ClauseSearches.{clause_count_of, learnt_count_of}
-use Rattle.resolvo.specs.RoundStates.{kinds_of, notes_of, origins_of, search_of}
+use Rattle.resolvo.specs.ClauseSearches.{learnt_count_of}
+use Rattle.resolvo.specs.RoundStates.{notes_of}
 use Rattle.resolvo.specs.declared.rounds.Rounds.{Rounds}
 use Rattle.resolvo.specs.declared.solver.Solver.{Solver}
 
@@ -19,7 +19,7 @@ module _ {D C N S : Type 0} where
 
   -- the number of its clauses, with the learnt ones, as far as it fits its type
   abbrev pub clause_count_in : Solver D C N S → ℕ
-  clause_count_in s = min (length (kinds_of s.rounds) + learnt_count_of (search_of s.rounds)) (2 ^ 64 - 1)
+  clause_count_in s = min (length s.rounds.encoding.table.kinds.items + learnt_count_of s.rounds.search) (2 ^ 64 - 1)
 
   -- the number of its deferred disjuncts
   abbrev pub deferred_count_in : Solver D C N S → ℕ
@@ -41,7 +41,7 @@ module _ {D C N S : Type 0} where
     pub learnt : s.learnt_limit ≡ limit
 
   -- the limits are the same
-  pub record KeepsLimits (old new : Solver D C N S) : Type 0 where
+  pub record KeepsSolverLimits (old new : Solver D C N S) : Type 0 where
     pub variables : new.variable_limit ≡ old.variable_limit
     pub clauses : new.clause_limit ≡ old.clause_limit
     pub learnt : new.learnt_limit ≡ old.learnt_limit
@@ -53,17 +53,16 @@ module _ {D C N S : Type 0} where
   -- the provider, the limits, the parameters and the state of the last search are the same
   pub record IsSameSolver (old new : Solver D C N S) : Type 0 where
     pub provider : provider_in new ≡ provider_in old
-    pub limits : KeepsLimits old new
+    pub limits : KeepsSolverLimits old new
     pub activity : KeepsActivity old new
     pub rounds : rounds_in new ≡ rounds_in old
 
   -- In the state of the last search there are as many variables as the limit, no two of them alike, or as many clauses,
-  -- or as many learnt clauses.
+  -- or as many learnt clauses, which are those without a place.
   abbrev pub IsAtLimit : Solver D C N S → Type 0
-  IsAtLimit s =
-      ((length (origins_of s.rounds) ≡ s.variable_limit) × AreDistinct (origins_of s.rounds))
-      ⊎ ((length (kinds_of s.rounds) ≡ s.clause_limit)
-      ⊎ ((s.clause_limit ≤ clause_count_of (search_of s.rounds)) ⊎ (s.learnt_limit ≤ learnt_count_of (search_of s.rounds))))
+  IsAtLimit s = ((length s.rounds.encoding.table.variables.origins ≡ s.variable_limit) × AreDistinct s.rounds.encoding.table.variables.origins)
+      ⊎ ((length s.rounds.encoding.table.kinds.items ≡ s.clause_limit)
+      ⊎ ((s.clause_limit ≤ length s.rounds.search.table) ⊎ (s.learnt_limit ≤ length s.rounds.search.table - length s.rounds.search.places)))
 
   -- the cached answers of the provider are true, and the number of each variable fits its type
   pub record IsSound (u : Universe N S) (s : Solver D C N S) : Type 0 where

@@ -26,8 +26,8 @@ StepIs trail table requirements (Conflict number) = IsConflict trail table numbe
 StepIs trail table requirements Finished = AreDone trail table requirements
 
 -- the candidate of the choice has become true, at a level of its own, and nothing else has changed
-abbrev pub Takes : Trail → Trail → List (List Literal) → Choice → Type 0
-Takes old new table choice =
+abbrev pub TakesChoice : Trail → Trail → List (List Literal) → Choice → Type 0
+TakesChoice old new table choice =
     (d : Literal) → Gains old new (slice_index_or (clause_at table choice.number) choice.place d) (level_of old + 1) (Decided choice.number)
 
 -- the last thing that was done is a decision
@@ -35,7 +35,7 @@ pub record EndsDecided (trail : Trail) (table : List (List Literal)) (requiremen
   pub before : Trail
   pub choice : Choice
   pub next : IsChoice before table requirements choice
-  pub taken : Takes before trail table choice
+  pub taken : TakesChoice before trail table choice
 
 -- a clause is false, or nothing is left to do
 abbrev pub HasNoNext : Trail → List (List Literal) → List StoredRequirement → Type 0

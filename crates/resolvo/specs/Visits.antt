@@ -56,7 +56,7 @@ GoesOnAt trail it falsified from next = (table : List (List Literal)) → IsVisi
     (λ placed. IsVisiting table trail it falsified placed.place)
 
 -- the visit goes on at the next place, with fewer watchers left
-pub record GoesOn (table : List (List Literal)) (trail : Trail) (old new : Propagator) (falsified : FalseLiteral) (place next : ℕ) : Type 0 where
+pub record ContinuesVisit (table : List (List Literal)) (trail : Trail) (old new : Propagator) (falsified : FalseLiteral) (place next : ℕ) : Type 0 where
   pub visiting : IsVisiting table trail new falsified next
   pub head : head_of new ≡ head_of old
   pub within : next ≤ length (watchers_of new falsified.literal)
@@ -70,11 +70,11 @@ pub record Fails (table : List (List Literal)) (trail : Trail) (new : Propagator
 
 -- the result of the visit to the watcher at a place
 abbrev pub WatchOutcomeIs : List (List Literal) → Trail → Propagator → Propagator → FalseLiteral → ℕ → WatchOutcome → Type 0
-WatchOutcomeIs table trail old new falsified place (Next next) = GoesOn table trail old new falsified place next
+WatchOutcomeIs table trail old new falsified place (Next next) = ContinuesVisit table trail old new falsified place next
 WatchOutcomeIs table trail old new falsified place (Conflict number) = Fails table trail new number
 
 -- a literal of the clause that is not false and differs from `other`
-pub record Replaces (trail : Trail) (clause : List Literal) (other to : Literal) : Type 0 where
+pub record IsReplacement (trail : Trail) (clause : List Literal) (other to : Literal) : Type 0 where
   pub inside : Contains clause to
   pub differ : other ≢ to
   pub not_false : literal_value trail to ≢ Some false
@@ -82,7 +82,7 @@ pub record Replaces (trail : Trail) (clause : List Literal) (other to : Literal)
 -- such a literal stands at this place of the clause
 pub record ReplacesAt (trail : Trail) (clause : List Literal) (other : Literal) (place : ℕ) : Type 0 where
   pub inside : place < length clause
-  pub replaces : (d : Literal) → Replaces trail clause other (slice_index_or clause place d)
+  pub replaces : (d : Literal) → IsReplacement trail clause other (slice_index_or clause place d)
 
 -- the clause watches these two literals, which differ
 pub record IsPaired (pairs : List WatchedPair) (number : ℕ) (one other : Literal) : Type 0 where
@@ -90,11 +90,11 @@ pub record IsPaired (pairs : List WatchedPair) (number : ℕ) (one other : Liter
   pub differ : one ≢ other
 
 -- the watch stands at its place in the list
-abbrev pub IsPlaced : List Watch → PlacedWatch → Type 0
-IsPlaced watchers placed = slice_get watchers placed.place ≡ Some placed.watch
+abbrev pub IsWatchPlaced : List Watch → PlacedWatch → Type 0
+IsWatchPlaced watchers placed = slice_get watchers placed.place ≡ Some placed.watch
 
 -- the clause with this number is at this place
-pub record StandsAt (watchers : List Watch) (place number : ℕ) : Type 0 where
+pub record IsWatchedAt (watchers : List Watch) (place number : ℕ) : Type 0 where
   pub watch : Watch
   pub is : slice_get watchers place ≡ Some watch
   pub named : watch.number ≡ number

@@ -6,11 +6,11 @@ use Rattle.resolver_clause_store.specs.declared.Watches.{Watches}
 use Rattle.resolver_clause_store.specs.Formula.{clause_at}
 use Rattle.resolver_clause_store.specs.Watches.{entry_count, pair_at, same}
 use Rattle.resolver_clause_store.specs.WatchesView.{lists_of, pairs_of}
-use Rattle.resolvo.specs.Attaching.{AreApart}
+use Rattle.resolvo.specs.Attaching.{AreDistinctLiterals}
 
 -- if the clause has two different literals, the pair is two of them
 abbrev pub OwnsPair : List Literal → WatchedPair → Type 0
-OwnsPair clause pair = (one other : Literal) → AreApart clause one other → AreApart clause pair.first pair.second
+OwnsPair clause pair = (one other : Literal) → AreDistinctLiterals clause one other → AreDistinctLiterals clause pair.first pair.second
 
 -- the same for each clause of the table
 abbrev pub AreOwned : List (List Literal) → List WatchedPair → Type 0
@@ -21,10 +21,10 @@ pub record StandsInTwo (clause : List Literal) (watches : Watches) (number : ℕ
   pub first : Literal
   pub second : Literal
   pub is : pair_at (pairs_of watches) number ≡ record { first = first; second = second }
-  pub apart : AreApart clause first second
+  pub apart : AreDistinctLiterals clause first second
   pub once : (list : ℕ) → entry_count (lists_of watches) list number ≡ same (list_number first) list + same (list_number second) list
 
 -- the same for each clause of the table with two different literals
 abbrev pub AreInLists : List (List Literal) → Watches → Type 0
-AreInLists table watches = (number : ℕ) → number < length table → (one other : Literal) → AreApart (clause_at table number) one other →
+AreInLists table watches = (number : ℕ) → number < length table → (one other : Literal) → AreDistinctLiterals (clause_at table number) one other →
     StandsInTwo (clause_at table number) watches number

@@ -15,13 +15,13 @@ ghost use Rattle.resolver_clause_store.specs.declared.Reason.TheVariants.{Assume
 ghost use Rattle.resolver_clause_store.specs.declared.RequirementClause.{RequirementClause};
 ghost use Rattle.resolver_clause_store.specs.declared.StoredRequirement.{StoredRequirement};
 ghost use Rattle.resolver_encoding.specs.Refusals.{IsStop};
-ghost use Rattle.resolver_clause_store.specs.Decisions.{IsChoice, IsFirst};
-ghost use Rattle.resolvo.specs.Propagation.{AreChosen, AssumesNone, Extends, IsConflict, IsJustified};
+ghost use Rattle.resolver_clause_store.specs.Decisions.{IsChoice, IsFirstUnassigned};
+ghost use Rattle.resolvo.specs.Propagation.{AreChosen, AssumesNone, ExtendsTrail, IsConflict, IsJustified};
 ghost use Rattle.resolver_clause_store.specs.Settled.{AllSettled};
 ghost use Rattle.resolver_clause_store.specs.WatchesView.{pairs_of};
 ghost use Rattle.resolvo.specs.Propagators.{IsPropagator};
 ghost use Rattle.resolvo.specs.Returning.{IsBelowHighest, TakesBack};
-ghost use Rattle.resolvo.specs.Steps.{AreDone, StepIs, Takes};
+ghost use Rattle.resolvo.specs.Steps.{AreDone, StepIs, TakesChoice};
 ghost use Rattle.resolvo.specs.declared.propagator.Propagator.{Propagator};
 ghost use Rattle.resolvo.specs.WatchedClauses.{AreInLists, AreOwned};
 ghost use Rattle.resolver_clause_store.specs.Queues.{IsQueued};
@@ -266,7 +266,7 @@ impl ClauseSearch {
         ensures same { OnOk result (IsSameSearch self.old self.new) }
         ensures count { OnOk result (length self.new.places ≡ length self.old.places + 1) }
         ensures undone { OnOk result (IsFalsified self.old.trail literals.now → TakesBack self.old.trail self.new.trail literals.now self.old.base) }
-        ensures stays { OnOk result ((IsFalsified (trail_of self.old) literals.now → ⊥) → Extends (trail_of self.old) (trail_of self.new)) }
+        ensures stays { OnOk result ((IsFalsified (trail_of self.old) literals.now → ⊥) → ExtendsTrail (trail_of self.old) (trail_of self.new)) }
     {
         let number = self.places.len();
         let place = self.table.len();
@@ -528,7 +528,7 @@ impl ClauseSearch {
         ensures consistent { OnOk result (IsConsistent self.new) }
         ensures same { OnOk result (IsSameProblem self.old self.new) }
         ensures learnt { OnOk result (learnt_count_of self.new ≡ learnt_count_of self.old) }
-        ensures taken { OnOk result (Takes self.old.trail self.new.trail self.new.table choice) }
+        ensures taken { OnOk result (TakesChoice self.old.trail self.new.trail self.new.table choice) }
         ensures given { OnOk result (self.new.table ≡ self.old.table) }
         ensures requirements { OnOk result (self.new.requirements ≡ self.old.requirements) }
         ensures fewer { OnOk result (open_count self.new.trail < open_count self.old.trail) }

@@ -14,7 +14,7 @@ ghost use Rattle.resolver_clause_store.specs.Statements.{StatesTheSame};
 ghost use Rattle.resolver_clause_store.specs.Rules.{IsRefuted};
 ghost use Rattle.resolvo.specs.MarkedClauses.{VerdictIs};
 ghost use Rattle.resolvo.specs.RuleClauses.{DecideRules};
-ghost use Rattle.resolvo.specs.Minimal.{CopiesFirst, IsUnderway, LeavesInTurn, marked, others_of};
+ghost use Rattle.resolvo.specs.Minimal.{CopiesFirst, IsUnderway, LeavesInTurn, only_marked, others_of};
 ghost use Rattle.resolvo.specs.Rotations.{AreNeeded, AreUnderway};
 
 use decision::{Verdict, decide};
@@ -34,7 +34,7 @@ pub fn copies_of<N: Copy + Drop, S: Copy + Drop>(
     marks: &[bool],
 ) -> Result<Vec<Rule<N, S>>, Exhausted>
     requires { length marks.now ≡ length rules.now }
-    ensures same { IfOk result (λ copies. AllZip StatesTheSame (marked marks.now rules.now) copies.items) }
+    ensures same { IfOk result (λ copies. AllZip StatesTheSame (only_marked marks.now rules.now) copies.items) }
     ensures memory { IfErr result (λ e. e ≡ Exhausted.Memory) }
 {
     let mut copies = Vec::new(alloc);
@@ -271,7 +271,7 @@ fn take_turns<N: Copy + Eq + Drop, S: Copy + Eq + Drop>(
     requires solvables { IsIdentity S.eq }
     requires form { IfSome form.now (λ form. DecideRules rules.now form.variables form.clauses.items) }
     requires underway { IsUnderway rules.now [] first.items }
-    ensures left { IfOk result (λ kept. LeavesInTurn [] rules.now (marked kept.items rules.now)) }
+    ensures left { IfOk result (λ kept. LeavesInTurn [] rules.now (only_marked kept.items rules.now)) }
     ensures size { IfOk result (λ kept. length kept.items ≡ length rules.now) }
     ensures memory { IfErr result (λ e. e ≡ Exhausted.Memory) }
 {
@@ -291,7 +291,7 @@ fn left_by<N: Copy + Eq + Drop, S: Copy + Eq + Drop>(
     requires names { IsIdentity N.eq }
     requires solvables { IsIdentity S.eq }
     requires form { IfSome form.now (λ form. DecideRules rules.now form.variables form.clauses.items) }
-    ensures left { IfOk result (λ kept. LeavesInTurn [] rules.now (marked kept.items rules.now)) }
+    ensures left { IfOk result (λ kept. LeavesInTurn [] rules.now (only_marked kept.items rules.now)) }
     ensures size { IfOk result (λ kept. length kept.items ≡ length rules.now) }
     ensures memory { IfErr result (λ e. e ≡ Exhausted.Memory) }
 {
@@ -313,7 +313,7 @@ pub fn left_in_turn<N: Copy + Eq + Hash + Drop, S: Copy + Eq + Hash + Drop>(
 ) -> Result<Vec<bool>, Exhausted>
     requires names { IsIdentity N.eq }
     requires solvables { IsIdentity S.eq }
-    ensures left { IfOk result (λ kept. LeavesInTurn [] rules.now (marked kept.items rules.now)) }
+    ensures left { IfOk result (λ kept. LeavesInTurn [] rules.now (only_marked kept.items rules.now)) }
     ensures size { IfOk result (λ kept. length kept.items ≡ length rules.now) }
     ensures memory { IfErr result (λ e. e ≡ Exhausted.Memory) }
 {

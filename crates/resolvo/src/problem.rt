@@ -41,11 +41,11 @@ pub struct Problem<Id, S> {
 }
 
 impl<Id> Problem<Id, EmptySolvables<Id>> {
-    ghost use Rattle.resolvo.specs.Problems.{demands_in, list_in, soft_in};
+    ghost use Rattle.resolvo.specs.Problems.{list_in, root_demands, soft_in};
 
     /// Returns a problem without requirements, constraints and soft requirements.
     pub fn new() -> Self
-        ensures demands { demands_in result ≡ record { requirements = []; constraints = [] } }
+        ensures demands { root_demands result ≡ record { requirements = []; constraints = [] } }
         ensures soft { soft_in result ≡ None }
         ensures list { list_in result ≡ [] }
     {
@@ -59,11 +59,11 @@ impl<Id> Problem<Id, EmptySolvables<Id>> {
 }
 
 impl<Id> Default for Problem<Id, EmptySolvables<Id>> {
-    ghost use Rattle.resolvo.specs.Problems.{demands_in, list_in, soft_in};
+    ghost use Rattle.resolvo.specs.Problems.{list_in, root_demands, soft_in};
 
     /// Returns the same as `new`.
     fn default() -> Self
-        ensures demands { demands_in result ≡ record { requirements = []; constraints = [] } }
+        ensures demands { root_demands result ≡ record { requirements = []; constraints = [] } }
         ensures soft { soft_in result ≡ None }
         ensures list { list_in result ≡ [] }
     {
@@ -72,11 +72,11 @@ impl<Id> Default for Problem<Id, EmptySolvables<Id>> {
 }
 
 impl<Id: Drop, S: Drop> Problem<Id, S> {
-    ghost use Rattle.resolvo.specs.Problems.{demands_in, list_in, soft_in};
+    ghost use Rattle.resolvo.specs.Problems.{list_in, root_demands, soft_in};
 
     /// Sets the requirements, in place of earlier ones.
     pub fn requirements(self, requirements: Vec<ConditionalRequirement>) -> Self
-        ensures demands { demands_in result ≡ record (demands_in self) { requirements = requirements.items } }
+        ensures demands { root_demands result ≡ record (root_demands self) { requirements = requirements.items } }
         ensures soft { soft_in result ≡ soft_in self }
         ensures list { list_in result ≡ list_in self }
     {
@@ -88,7 +88,7 @@ impl<Id: Drop, S: Drop> Problem<Id, S> {
 
     /// Sets the constraints, in place of earlier ones.
     pub fn constraints(self, constraints: Vec<VersionSetId>) -> Self
-        ensures demands { demands_in result ≡ record (demands_in self) { constraints = constraints.items } }
+        ensures demands { root_demands result ≡ record (root_demands self) { constraints = constraints.items } }
         ensures soft { soft_in result ≡ soft_in self }
         ensures list { list_in result ≡ list_in self }
     {
@@ -102,7 +102,7 @@ impl<Id: Drop, S: Drop> Problem<Id, S> {
     ///
     /// They have their turns in this order, and each is taken if it fits what was taken before it.
     pub fn soft_requirements<I: Iterator<Item = Id>>(self, soft_requirements: I) -> Problem<Id, I>
-        ensures demands { demands_in result ≡ demands_in self }
+        ensures demands { root_demands result ≡ root_demands self }
         ensures soft { soft_in result ≡ Some soft_requirements }
         ensures list { list_in result ≡ list_in self }
     {
@@ -119,7 +119,7 @@ impl<Id: Drop, S: Drop> Problem<Id, S> {
     ///
     /// Of a version set, the first candidate that fits is taken, unless a candidate is chosen already.
     pub fn soft_list(self, soft_list: Vec<SoftRequirement<Id>>) -> Self
-        ensures demands { demands_in result ≡ demands_in self }
+        ensures demands { root_demands result ≡ root_demands self }
         ensures soft { soft_in result ≡ soft_in self }
         ensures list { list_in result ≡ soft_list.items }
     {
@@ -131,7 +131,7 @@ impl<Id: Drop, S: Drop> Problem<Id, S> {
 
     /// Returns the requirements, none if they are not set.
     pub(crate) fn root_requirements(&self) -> &[ConditionalRequirement]
-        ensures { result.now ≡ (demands_in self.now).requirements }
+        ensures { result.now ≡ (root_demands self.now).requirements }
     {
         match &self.requirements {
             None => &[],
@@ -141,7 +141,7 @@ impl<Id: Drop, S: Drop> Problem<Id, S> {
 
     /// Returns the constraints, none if they are not set.
     pub(crate) fn root_constraints(&self) -> &[VersionSetId]
-        ensures { result.now ≡ (demands_in self.now).constraints }
+        ensures { result.now ≡ (root_demands self.now).constraints }
     {
         match &self.constraints {
             None => &[],

@@ -7,7 +7,7 @@ ghost use Rattle.std.specs.Prelude.{◌≡◌, ◌+◌, ◌-◌, ◌≤◌, ◌<
 ghost use Rattle.std.specs.Prelude.{min, slice_get, true};
 ghost use Rattle.resolver_clause_store.specs.TrailView.{length_of, slot_of};
 ghost use Rattle.resolver_clause_store.specs.declared.Origin.TheVariants.{Solvable as SolvableOrigin};
-ghost use Rattle.resolvo.specs.Problems.{AreItems, demands_in, list_in};
+ghost use Rattle.resolvo.specs.Problems.{AreItems, list_in, root_demands};
 ghost use Rattle.resolver_clause_store.specs.Caches.{IsTrueCache};
 ghost use Rattle.resolver_clause_store.specs.Laws.{IsIdentity};
 ghost use Rattle.resolver_clause_store.specs.Variables.{AreDistinct};
@@ -63,8 +63,8 @@ pub struct Rounds<N: Copy + Eq + Hash + Drop, S: Copy + Eq + Hash + Drop> {
 
 impl<N: Copy + Eq + Hash + Drop, S: Copy + Eq + Hash + Drop> Rounds<N, S> {
     ghost use Rattle.resolvo.specs.RoundStates.{AreAtRest, AreRounds, GoesOn, HasFollowed, HasBookmark, HasAssumed, IsAnswering, IsDoneBy};
-    ghost use Rattle.resolvo.specs.RoundStates.{IsFollowing, IsRefusing, IsFound, IsFresh, IsStill, IsRound, IsSearchOf, IsStuck, IsUnanswered, IsUpToDate};
-    ghost use Rattle.resolvo.specs.RoundStates.{KeepsEncoding, KeepsRoom, TakesTurn};
+    ghost use Rattle.resolvo.specs.RoundStates.{IsFollowingFrom, IsRefusing, IsFound, IsFresh, IsStill, IsRound, IsSearchOf, IsStuck, IsUnanswered, IsUpToDate};
+    ghost use Rattle.resolvo.specs.RoundStates.{KeepsEncoding, KeepsRoundLimits, TakesTurn};
     ghost use Rattle.resolvo.specs.RoundStates.{chosen_of, clause_limit_of, learnt_limit_of, notes_of, search_of};
 
     /// Returns rounds that have read nothing.
@@ -116,11 +116,11 @@ impl<N: Copy + Eq + Hash + Drop, S: Copy + Eq + Hash + Drop> Rounds<N, S> {
         requires is_true { IsTrueCache (D.universe provider.now) cache.old }
         ensures is_true { IsTrueCache (D.universe provider.now) cache.new }
         ensures rounds { OnOk result (AreRounds (D.universe provider.now) self.new) }
-        ensures read { OnOk result (IsReadSoFar (D.universe provider.now) (demands_in problem.now) (chosen_of self.new) (notes_of self.new)) }
-        ensures near { OnOk result (AreNear (D.universe provider.now) (demands_in problem.now) [] [] (notes_of self.new)) }
+        ensures read { OnOk result (IsReadSoFar (D.universe provider.now) (root_demands problem.now) (chosen_of self.new) (notes_of self.new)) }
+        ensures near { OnOk result (AreNear (D.universe provider.now) (root_demands problem.now) [] [] (notes_of self.new)) }
         ensures exempt { OnOk result ((notes_of self.new).exempt ≡ []) }
         ensures turn { OnOk result (IsRootTurn (search_of self.new)) }
-        ensures limits { KeepsRoom self.old self.new }
+        ensures limits { KeepsRoundLimits self.old self.new }
         ensures refusal { IfErr result (IsStop (D.may_cancel provider.now) (IsStuck self.new)) }
     {
         self.encoding.read_root(
@@ -143,7 +143,7 @@ impl<N: Copy + Eq + Hash + Drop, S: Copy + Eq + Hash + Drop> Rounds<N, S> {
         ensures same { IsSearchOf self.old self.new }
         ensures turn { OnOk result (KeepsTurn (search_of self.old) (search_of self.new)) }
         ensures still { OnOk result (IsStill self.old → IsStill self.new) }
-        ensures limits { KeepsRoom self.old self.new }
+        ensures limits { KeepsRoundLimits self.old self.new }
         ensures memory { IfErr result (λ e. e ≡ Exhausted.Memory) }
     {
         let known = self.encoding.variables();
@@ -170,7 +170,7 @@ impl<N: Copy + Eq + Hash + Drop, S: Copy + Eq + Hash + Drop> Rounds<N, S> {
         ensures same { IsSearchOf self.old self.new }
         ensures turn { OnOk result (KeepsTurn (search_of self.old) (search_of self.new)) }
         ensures outcome { IfOk result (OutcomeIs (notes_of self.new).table (notes_of self.new).requirements (search_of self.new)) }
-        ensures limits { KeepsRoom self.old self.new }
+        ensures limits { KeepsRoundLimits self.old self.new }
         ensures refusal { IfErr result (IsStop (D.may_cancel provider.now) (IsStuck self.new)) }
     {
         self.load(provider)?;
@@ -188,10 +188,10 @@ impl<N: Copy + Eq + Hash + Drop, S: Copy + Eq + Hash + Drop> Rounds<N, S> {
         requires consistent { IsConsistent (search_of self.old) }
         requires loaded { IsUpToDate self.old }
         requires bookmark { HasBookmark self.old }
-        ensures following { IfOk result (IsFollowing self.old self.new) }
+        ensures following { IfOk result (IsFollowingFrom self.old self.new) }
         ensures followed { OnOk result (HasFollowed self.old self.new) }
         ensures same { KeepsEncoding self.old self.new }
-        ensures limits { KeepsRoom self.old self.new }
+        ensures limits { KeepsRoundLimits self.old self.new }
         ensures memory { IfErr result (λ e. e ≡ Exhausted.Memory) }
     {
         self.chosen.cut::<N>(self.search.kept());
@@ -217,7 +217,7 @@ impl<N: Copy + Eq + Hash + Drop, S: Copy + Eq + Hash + Drop> Rounds<N, S> {
         ensures followed { OnOk result (HasFollowed self.old self.new) }
         ensures progress { IfOk result (IsProgress (notes_of self.old) (notes_of self.new)) }
         ensures fit { OnOk result (length (notes_of self.new).read ≤ (notes_of self.new).variable_limit) }
-        ensures limits { KeepsRoom self.old self.new }
+        ensures limits { KeepsRoundLimits self.old self.new }
         ensures refusal { IfErr result (IsStop (D.may_cancel provider.now) (IsStuck self.new)) }
     {
         let from = self.follow()?;
@@ -240,7 +240,7 @@ impl<N: Copy + Eq + Hash + Drop, S: Copy + Eq + Hash + Drop> Rounds<N, S> {
         ensures made { IfOk result (λ made. made ≡ true → HasDecided (search_of self.new)) }
         ensures none { IfOk result (λ made. made ≡ false →
             (length_of (trail_of self.old.search) ≤ length_of (trail_of self.new.search)) ⊎ IsStalled self.new.search) }
-        ensures limits { KeepsRoom self.old self.new }
+        ensures limits { KeepsRoundLimits self.old self.new }
         ensures refusal { IfErr result (IsStop (D.may_cancel provider.now) (IsStuck self.new)) }
     {
         let before = self.search.trail().len();
@@ -267,7 +267,7 @@ impl<N: Copy + Eq + Hash + Drop, S: Copy + Eq + Hash + Drop> Rounds<N, S> {
         ensures keeps { OnOk result (GoesOn (D.universe provider.now) self.old self.new) }
         ensures progress { IfOk result (IsProgress (notes_of self.old) (notes_of self.new)) }
         ensures fit { IfOk result (λ progress. progress ≡ ReadProgress → length (notes_of self.new).read ≤ (notes_of self.new).variable_limit) }
-        ensures limits { KeepsRoom self.old self.new }
+        ensures limits { KeepsRoundLimits self.old self.new }
         ensures refusal { IfErr result (IsStop (D.may_cancel provider.now) (IsStuck self.new)) }
     {
         if self.decide_after_failure(provider)? {
@@ -289,7 +289,7 @@ impl<N: Copy + Eq + Hash + Drop, S: Copy + Eq + Hash + Drop> Rounds<N, S> {
         ensures rounds { OnOk result (AreRounds (D.universe provider.now) self.new) }
         ensures keeps { OnOk result (GoesOn (D.universe provider.now) self.old self.new) }
         ensures round { IfOk result (IsRound (D.universe provider.now) self.old self.new) }
-        ensures limits { KeepsRoom self.old self.new }
+        ensures limits { KeepsRoundLimits self.old self.new }
         ensures refusal { IfErr result (IsStop (D.may_cancel provider.now) (IsStuck self.new)) }
     {
         match self.search(provider)? {
@@ -315,7 +315,7 @@ impl<N: Copy + Eq + Hash + Drop, S: Copy + Eq + Hash + Drop> Rounds<N, S> {
         ensures rounds { OnOk result (AreRounds (D.universe provider.now) self.new) }
         ensures keeps { OnOk result (GoesOn (D.universe provider.now) self.old self.new) }
         ensures round { IfOk result (IsRound (D.universe provider.now) self.old self.new) }
-        ensures limits { KeepsRoom self.old self.new }
+        ensures limits { KeepsRoundLimits self.old self.new }
         ensures refusal { IfErr result (IsStop (D.may_cancel provider.now) (IsStuck self.new)) }
     {
         match self.read_after_failure(provider, cache)? {
@@ -342,7 +342,7 @@ impl<N: Copy + Eq + Hash + Drop, S: Copy + Eq + Hash + Drop> Rounds<N, S> {
         ensures found { IfOk result (λ answer. IfSome answer (IsFound (D.universe provider.now) self.new)) }
         ensures read { IfOk result (λ answer. IfNone answer (length (notes_of self.old).read < length (notes_of self.new).read)) }
         ensures fit { IfOk result (λ answer. IfNone answer (length (notes_of self.new).read ≤ (notes_of self.new).variable_limit)) }
-        ensures limits { KeepsRoom self.old self.new }
+        ensures limits { KeepsRoundLimits self.old self.new }
         ensures refusal { IfErr result (IsStop (D.may_cancel provider.now) (IsStuck self.new)) }
     {
         'rounds: loop {
@@ -366,7 +366,7 @@ impl<N: Copy + Eq + Hash + Drop, S: Copy + Eq + Hash + Drop> Rounds<N, S> {
         ensures rounds { OnOk result (AreRounds (D.universe provider.now) self.new) }
         ensures keeps { OnOk result (GoesOn (D.universe provider.now) self.old self.new) }
         ensures found { IfOk result (IsFound (D.universe provider.now) self.new) }
-        ensures limits { KeepsRoom self.old self.new }
+        ensures limits { KeepsRoundLimits self.old self.new }
         ensures refusal { IfErr result (IsStop (D.may_cancel provider.now) (IsStuck self.new)) }
     {
         'rounds: loop {
@@ -393,7 +393,7 @@ impl<N: Copy + Eq + Hash + Drop, S: Copy + Eq + Hash + Drop> Rounds<N, S> {
         ensures is_true { IsTrueCache (D.universe provider.now) cache.new }
         ensures rest { OnOk result (AreAtRest (D.universe provider.now) self.new) }
         ensures refused { OnOk result (IsRefusing (D.universe provider.now) variable exempt self.old self.new) }
-        ensures limits { KeepsRoom self.old self.new }
+        ensures limits { KeepsRoundLimits self.old self.new }
         ensures refusal { IfErr result (IsStop (D.may_cancel provider.now) (IsStuck self.new)) }
     {
         self.encoding.end_turn(provider, cache, exempt)?;
@@ -417,7 +417,7 @@ impl<N: Copy + Eq + Hash + Drop, S: Copy + Eq + Hash + Drop> Rounds<N, S> {
         ensures keeps { OnOk result (GoesOn (D.universe provider.now) self.old self.new) }
         ensures answer { IfOk result (λ answered. answered ≡ true → IsAnswering (D.universe provider.now) self.new) }
         ensures unanswered { IfOk result (λ answered. answered ≡ false → IsUnanswered self.new) }
-        ensures limits { KeepsRoom self.old self.new }
+        ensures limits { KeepsRoundLimits self.old self.new }
         ensures refusal { IfErr result (IsStop (D.may_cancel provider.now) (IsStuck self.new)) }
     {
         match self.all_rounds(provider, cache)? {
@@ -445,7 +445,7 @@ impl<N: Copy + Eq + Hash + Drop, S: Copy + Eq + Hash + Drop> Rounds<N, S> {
         ensures rest { OnOk result (AreAtRest (D.universe provider.now) self.new) }
         ensures turned { IfOk result (λ chosen.
             Contains (notes_of self.old).seen solvable → TakesTurn (D.universe provider.now) solvable self.old self.new chosen) }
-        ensures limits { KeepsRoom self.old self.new }
+        ensures limits { KeepsRoundLimits self.old self.new }
         ensures refusal { IfErr result (IsStop (D.may_cancel provider.now) (IsStuck self.new)) }
     {
         let exempt = self.encoding.exempt().len();
@@ -472,7 +472,7 @@ impl<N: Copy + Eq + Hash + Drop, S: Copy + Eq + Hash + Drop> Rounds<N, S> {
         ensures is_true { IsTrueCache (D.universe provider.now) cache.new }
         ensures rest { OnOk result (AreAtRest (D.universe provider.now) self.new) }
         ensures turned { IfOk result (TakesTurn (D.universe provider.now) solvable self.old self.new) }
-        ensures limits { KeepsRoom self.old self.new }
+        ensures limits { KeepsRoundLimits self.old self.new }
         ensures refusal { IfErr result (IsStop (D.may_cancel provider.now) (IsStuck self.new)) }
     {
         let variable = self.encoding.register(provider, solvable)?;
@@ -501,9 +501,9 @@ impl<N: Copy + Eq + Hash + Drop, S: Copy + Eq + Hash + Drop> Rounds<N, S> {
         requires is_true { IsTrueCache (D.universe provider.now) cache.old }
         ensures is_true { IsTrueCache (D.universe provider.now) cache.new }
         ensures done { IfOk result
-            (IsDoneBy (D.universe provider.now) (demands_in problem.now) (AreItems I.next_gives soft) (list_in problem.now) self.new) }
+            (IsDoneBy (D.universe provider.now) (root_demands problem.now) (AreItems I.next_gives soft) (list_in problem.now) self.new) }
         ensures table { OnOk result (length (notes_of self.new).table ≡ length (notes_of self.new).kinds) }
-        ensures limits { KeepsRoom self.old self.new }
+        ensures limits { KeepsRoundLimits self.old self.new }
         ensures refusal { IfErr result (IsStop (D.may_cancel provider.now) (IsStuck self.new)) }
     {
         self.begin(provider, cache, problem)?;

@@ -8,13 +8,13 @@ ghost use Rattle.resolvo.specs.Answers.{AnswersFound, IsAnswerTo};
 ghost use Rattle.resolvo.specs.Conflicts.{rules_in};
 ghost use Rattle.resolvo.specs.Explanations.{ExplainsCore};
 ghost use Rattle.resolvo.specs.declared.rounds.Found.TheVariants.{Answer as FoundAnswer};
-ghost use Rattle.resolvo.specs.Problems.{demands_in, soft_in};
+ghost use Rattle.resolvo.specs.Problems.{root_demands, soft_in};
 ghost use Rattle.std.specs.Iterator.{IsFinite};
 ghost use Rattle.resolvo.specs.declared.solver.UnsolvableOrCancelled.TheVariants.{Exhausted as ExhaustedError};
 ghost use Rattle.resolver_clause_store.specs.declared.Exhausted.TheVariants.{Memory};
 ghost use Rattle.resolvo.specs.Refusals.{IsRefusal, RefusesCore, RefusesFound};
 ghost use Rattle.resolvo.specs.RoundStates.{IsSomeDone, IsStuck, chosen_of, notes_of};
-ghost use Rattle.resolvo.specs.Solvers.{HasActivity, HasLimits, IsAtLimit, IsSameSolver, IsSound, KeepsActivity, KeepsLimits};
+ghost use Rattle.resolvo.specs.Solvers.{HasActivity, HasLimits, IsAtLimit, IsSameSolver, IsSound, KeepsActivity, KeepsSolverLimits};
 ghost use Rattle.resolvo.specs.Solvers.{clause_count_in, deferred_count_in, exempt_in, provider_in, rounds_in};
 
 use crate::conflict::Conflict;
@@ -111,7 +111,7 @@ impl<D: DependencyProvider> Solver<D> {
         ensures activity { HasActivity add decay result }
         ensures provider { provider_in result ≡ provider_in self }
         ensures sound { IsSound (D.universe (provider_in self)) self → IsSound (D.universe (provider_in result)) result }
-        ensures limits { KeepsLimits self result }
+        ensures limits { KeepsSolverLimits self result }
         ensures rounds { rounds_in result ≡ rounds_in self }
         ensures exempt { exempt_in result ≡ exempt_in self }
     {
@@ -236,13 +236,13 @@ impl<D: DependencyProvider> Solver<D> {
         requires ends { IfSome (soft_in problem) (λ it. IsFinite (S.remaining it)) }
         ensures sound { IsSound (D.universe (provider_in self.new)) self.new }
         ensures provider { provider_in self.new ≡ provider_in self.old }
-        ensures limits { KeepsLimits self.old self.new }
+        ensures limits { KeepsSolverLimits self.old self.new }
         ensures activity { KeepsActivity self.old self.new }
         ensures answer { IfOk result (λ chosen.
             IsAnswerTo (D.universe (provider_in self.old)) S.next_gives problem chosen.items (exempt_in self.new)) }
         ensures none { OnErr result (exempt_in self.new ≡ []) }
         ensures refusal { IfErr result
-            (IsRefusal (D.universe (provider_in self.old)) (D.may_cancel (provider_in self.old)) (demands_in problem) (IsAtLimit self.new)) }
+            (IsRefusal (D.universe (provider_in self.old)) (D.may_cancel (provider_in self.old)) (root_demands problem) (IsAtLimit self.new)) }
     {
         self.exempt = Vec::new(self.alloc);
         let rounds = Rounds::new(

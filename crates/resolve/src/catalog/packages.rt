@@ -33,9 +33,9 @@ pub struct Packages {
 
 impl Model for Packages {
     ghost use Rattle.std.specs.Prelude.{All, List, length, map};
-    ghost use Rattle.resolve.specs.Listings.{IsListedWithin, Package, package_in};
+    ghost use Rattle.resolve.specs.Listings.{IsListedWithin, ListedPackage, package_in};
 
-    ghost Value = { List Package };
+    ghost Value = { List ListedPackage };
 
     ghost view = { λ it. map (package_in it.candidates it.excluded) it.listings.items };
 

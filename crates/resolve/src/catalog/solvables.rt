@@ -1,7 +1,7 @@
 //! What was declared of each version.
 
 ghost use Rattle.std.specs.Prelude.{◌≡◌, ◌<◌, ◌++◌, ◌∷◌, [], IfOk, OnErr, OnOk, Some, length, slice_index_or, slice_set, true};
-ghost use Rattle.resolve.specs.Solvables.{excluded_in, no_needs, reason_in, with_constraint, with_requirement};
+ghost use Rattle.resolve.specs.Solvables.{excluded_in, no_needs, unknown_reason, with_constraint, with_requirement};
 
 use super::links::Links;
 use resolver_clause_store::{ConditionalRequirement, StringId, VersionSetId};
@@ -19,7 +19,7 @@ enum State {
 
 /// Returns the reason for which the requirements and constraints are unknown, if there is one.
 fn reason_of(state: State) -> Option<StringId>
-    ensures { result ≡ reason_in state }
+    ensures { result ≡ unknown_reason state }
 {
     match state {
         State::Known(_) => None,
@@ -39,7 +39,7 @@ fn is_excluded(state: State) -> bool
 
 /// Returns the state of an excluded version.
 fn excluded(state: State) -> State
-    ensures reason { reason_in result ≡ reason_in state }
+    ensures reason { unknown_reason result ≡ unknown_reason state }
     ensures excluded { excluded_in result ≡ true }
 {
     match state {
@@ -71,13 +71,13 @@ pub struct Solvables {
 
 impl Model for Solvables {
     ghost use Rattle.std.specs.Prelude.{All, List, length, map};
-    ghost use Rattle.resolve.specs.Solvables.{IsWithin, Solvable, solvable_in};
+    ghost use Rattle.resolve.specs.Solvables.{IsRowWithin, Solvable, solvable_of_row};
 
     ghost Value = { List Solvable };
 
-    ghost view = { λ it. map (solvable_in it.requirements it.constraints) it.rows.items };
+    ghost view = { λ it. map (solvable_of_row it.requirements it.constraints) it.rows.items };
 
-    ghost invariant = { λ it. All (IsWithin (length it.requirements) (length it.constraints)) it.rows.items };
+    ghost invariant = { λ it. All (IsRowWithin (length it.requirements) (length it.constraints)) it.rows.items };
 }
 
 impl Solvables {

@@ -1,14 +1,13 @@
 //! Tables of packages with their versions, and of conditions.
 
-ghost use Rattle.std.specs.Prelude.{◌≡◌, ◌<◌, ◌≤◌, ◌++◌, ◌∷◌, [], length, IfOk, IfErr, IfNone, IfSome, MatchBool, MatchOption, OnErr, OnOk};
+ghost use Rattle.std.specs.Prelude.{◌≡◌, ◌<◌, ◌≤◌, ◌++◌, ◌∷◌, [], length, IfOk, IfErr, IfNone, IfSome, MatchBool, OnErr, OnOk};
 ghost use Rattle.std.proofs.Props.{props};
-ghost use Rattle.resolve.specs.Additions.{IsShortage};
+ghost use Rattle.resolve.specs.Additions.{IsTableShortage};
 ghost use Rattle.resolve.specs.Listings.{no_versions};
-ghost use Rattle.resolve.specs.Packages.{ArePackagesOf, IsConstrained, IsDeclarationRefused, IsDeclared, IsExcluded, IsExclusionRefused, IsFavorRefused};
-ghost use Rattle.resolve.specs.Packages.{IsFavored, IsLockRefused, IsLocked, IsMadeUnknown, IsReasonRefused, IsRequired, IsVersionOf};
-ghost use Rattle.resolve.specs.Packages.{IsWithoutPackage, name_at, version_at, preference};
+ghost use Rattle.resolve.specs.Packages.{ArePackagesOf, IsConstrained, IsFavorRefused, IsFavored, IsLockRefused, IsLocked, IsMadeUnknown};
+ghost use Rattle.resolve.specs.Packages.{IsReasonRefused, IsRequired, IsVersionOf, IsWithoutPackage, name_at, version_at, preference};
 ghost use Rattle.resolver_clause_store.specs.Sorting.{sorted_by};
-ghost use Rattle.resolve.specs.Conditions.{ArePartsLower, IsJoined, IsPartMissing, condition_at};
+ghost use Rattle.resolve.specs.Conditions.{ArePartsLower, JoinsParts, condition_at};
 
 use super::packages::Packages;
 use super::solvables::Solvables;
@@ -32,6 +31,8 @@ pub struct PackageTable {
 }
 
 impl PackageTable {
+    ghost use Rattle.resolve.specs.Catalogs.{ChangesPackage, DeclaresVersion, ExcludesSolvable};
+
     /// Returns a table without packages.
     pub fn new(alloc: Global) -> PackageTable
         ensures packages { result.packages ≡ [] }
@@ -96,12 +97,8 @@ impl PackageTable {
     /// Returns `false` if it was declared before, or if there is no such package.
     /// An error may leave the version declared, and not listed.
     pub fn add_version(&mut self, name: NameId, number: u32) -> Result<bool, Exhausted>
-        ensures declared { IfOk result (λ is_new.
-            MatchBool is_new (IsDeclared self.old.versions.keys self.new.versions.keys self.old.solvables self.new.solvables self.old.packages
-            self.new.packages (record { name = name; number = number }))
-            (IsDeclarationRefused self.old.versions.keys self.new.versions.keys self.old.solvables self.new.solvables self.old.packages
-            self.new.packages (record { name = name; number = number }))) }
-        ensures refusal { IfErr result (IsShortage (length self.old.versions.keys)) }
+        ensures declared { IfOk result (DeclaresVersion self.old self.new (record { name = name; number = number })) }
+        ensures refusal { IfErr result (IsTableShortage (length self.old.versions.keys)) }
     {
         let version = Version { name, number };
         let package = name.0 as usize;
@@ -189,8 +186,7 @@ impl PackageTable {
 
     /// Favors a solvable. Returns `false` if its package has a favored solvable already, or does not exist.
     pub fn favor(&mut self, solvable: SolvableId) -> bool
-        ensures favored { MatchBool result (IsFavored self.old.versions.keys self.old.packages self.new.packages solvable)
-            (IsFavorRefused self.old.versions.keys self.old.packages self.new.packages solvable) }
+        ensures favored { ChangesPackage IsFavored IsFavorRefused self.old self.new solvable result }
         ensures kept { (self.new.versions.keys ≡ self.old.versions.keys) × (self.new.solvables ≡ self.old.solvables) }
     {
         let Some(place) = self.package_place(solvable) else {
@@ -205,8 +201,7 @@ impl PackageTable {
 
     /// Locks the package of a solvable to it. Returns `false` if the package is locked already, or does not exist.
     pub fn lock(&mut self, solvable: SolvableId) -> bool
-        ensures locked { MatchBool result (IsLocked self.old.versions.keys self.old.packages self.new.packages solvable)
-            (IsLockRefused self.old.versions.keys self.old.packages self.new.packages solvable) }
+        ensures locked { ChangesPackage IsLocked IsLockRefused self.old self.new solvable result }
         ensures kept { (self.new.versions.keys ≡ self.old.versions.keys) × (self.new.solvables ≡ self.old.solvables) }
     {
         let Some(place) = self.package_place(solvable) else {
@@ -221,11 +216,7 @@ impl PackageTable {
 
     /// Excludes a solvable for a reason. Returns `false` if it is excluded already, or does not exist.
     pub fn exclude(&mut self, solvable: SolvableId, reason: StringId) -> Result<bool, Exhausted>
-        ensures excluded { IfOk result (λ is_new.
-            MatchBool is_new (IsExcluded self.old.versions.keys self.old.solvables self.new.solvables self.old.packages
-            self.new.packages solvable reason)
-            (IsExclusionRefused self.old.versions.keys self.old.solvables self.new.solvables self.old.packages self.new.packages
-            solvable)) }
+        ensures excluded { IfOk result (ExcludesSolvable self.old self.new solvable reason) }
         ensures kept { self.new.versions.keys ≡ self.old.versions.keys }
         ensures memory { IfErr result (λ e. e ≡ Exhausted.Memory) }
     {
@@ -273,7 +264,7 @@ impl ConditionTable {
     pub fn add_on(&mut self, version_set: VersionSetId) -> Result<ConditionId, Exhausted>
         ensures id { IfOk result (λ id. id.0 ≡ length self.old.conditions.items) }
         ensures added { OnOk result (self.new.conditions.items ≡ self.old.conditions.items ++ Condition.Requirement version_set ∷ []) }
-        ensures refusal { IfErr result (IsShortage (length self.old.conditions.items)) }
+        ensures refusal { IfErr result (IsTableShortage (length self.old.conditions.items)) }
     {
         let id = ConditionId(id_of(self.conditions.len())?);
         self.conditions.push(Condition::Requirement(version_set))?;
@@ -287,10 +278,8 @@ impl ConditionTable {
         left: ConditionId,
         right: ConditionId,
     ) -> Result<Option<ConditionId>, Exhausted>
-        ensures joined { IfOk result (λ made.
-            MatchOption made (IsPartMissing self.old.conditions.items self.new.conditions.items left right)
-            (IsJoined self.old.conditions.items self.new.conditions.items operator left right)) }
-        ensures refusal { IfErr result (IsShortage (length self.old.conditions.items)) }
+        ensures joined { IfOk result (JoinsParts self.old.conditions.items self.new.conditions.items operator left right) }
+        ensures refusal { IfErr result (IsTableShortage (length self.old.conditions.items)) }
     {
         let count = self.conditions.len();
         if left.0 as usize >= count || right.0 as usize >= count {

@@ -2,7 +2,7 @@
 
 ghost use Rattle.std.specs.Prelude.{◌≡◌, ◌⊎◌, ◌<◌, ◌≤◌, ◌^◌, ℕ, All, Contains, IfErr, OnOk, ⊤};
 ghost use Rattle.resolver_clause_store.specs.Laws.{IsIdentity};
-ghost use Rattle.resolver_clause_store.specs.Variables.{IsFull as AreFull, limit_in, origins_in};
+ghost use Rattle.resolver_clause_store.specs.Variables.{AreFull, limit_in, origins_in};
 ghost use Rattle.resolver_clause_store.specs.declared.ClauseKind.TheVariants.{HasBit as HasBitKind};
 ghost use Rattle.resolver_clause_store.specs.declared.Origin.TheVariants.{Solvable};
 ghost use Rattle.resolver_encoding.specs.Called.{IsSeeing, IsSeeingEach};

@@ -5,8 +5,8 @@ ghost use Rattle.std.specs.List.{AllZip};
 ghost use Rattle.resolver_clause_store.specs.Laws.{IsIdentity};
 ghost use Rattle.resolver_clause_store.specs.Variables.{AreDistinct, Keeps};
 ghost use Rattle.resolvo.specs.AddedLines.{AddsLines};
-ghost use Rattle.resolvo.specs.RuleClauses.{ClausesDecide, DecideRules, IsLiteralOf, all_lines, requirer_atoms, requirement_line, requirement_lines, atom, bit_lines};
-ghost use Rattle.resolvo.specs.RuleClauses.{candidate_atoms, condition_lines, lines_of, list_atoms, member_lines, plain};
+ghost use Rattle.resolvo.specs.RuleClauses.{ClausesDecide, DecideRules, IsLiteralOf, all_lines, requirer_atoms, requirement_line, requirement_lines, line_atom, bit_lines};
+ghost use Rattle.resolvo.specs.RuleClauses.{candidate_atoms, condition_lines, list_atoms, member_lines, plain, rule_lines};
 ghost use Rattle.resolvo.specs.declared.minimal.rule_clauses.Proposition.TheVariants.{Member};
 
 use crate::minimal::rule_codes::{codes_of, count_of, place_among};
@@ -355,7 +355,7 @@ fn add_constraint<N: Copy + Eq + Hash + Drop, S: Copy + Eq + Hash + Drop>(
 ) -> Result<(), Exhausted>
     requires names { IsIdentity N.eq }
     requires solvables { IsIdentity S.eq }
-    ensures { OnOk result (AddsLines draft.old draft.new (plain rule (requirer_atoms by ++ atom (Member candidate) false ∷ []) ∷ [])) }
+    ensures { OnOk result (AddsLines draft.old draft.new (plain rule (requirer_atoms by ++ line_atom (Member candidate) false ∷ []) ∷ [])) }
 {
     let excluded = Atom {
         proposition: Proposition::Member(candidate),
@@ -385,7 +385,7 @@ fn add_exclusion<N: Copy + Eq + Hash + Drop, S: Copy + Eq + Hash + Drop>(
 ) -> Result<(), Exhausted>
     requires names { IsIdentity N.eq }
     requires solvables { IsIdentity S.eq }
-    ensures { OnOk result (AddsLines draft.old draft.new (plain rule (atom (Member solvable) false ∷ []) ∷ [])) }
+    ensures { OnOk result (AddsLines draft.old draft.new (plain rule (line_atom (Member solvable) false ∷ []) ∷ [])) }
 {
     let absent = Atom {
         proposition: Proposition::Member(solvable),
@@ -406,7 +406,7 @@ fn add_rule<N: Copy + Eq + Hash + Drop, S: Copy + Eq + Hash + Drop>(
     requires names { IsIdentity N.eq }
     requires solvables { IsIdentity S.eq }
     requires width { width ≤ 64 }
-    ensures { OnOk result (AddsLines draft.old draft.new (lines_of width place code rule.now)) }
+    ensures { OnOk result (AddsLines draft.old draft.new (rule_lines width place code rule.now)) }
 {
     match rule {
         Rule::Requires {

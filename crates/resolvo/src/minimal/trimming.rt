@@ -3,7 +3,7 @@
 ghost use Rattle.std.specs.Prelude.{◌<◌, ◌≡◌, IfErr, IfOk, IfSome, OnOk, length};
 ghost use Rattle.resolver_clause_store.specs.Laws.{IsIdentity};
 ghost use Rattle.resolver_clause_store.specs.Rules.{IsRefuted};
-ghost use Rattle.resolvo.specs.Minimal.{IsRefutedPart, marked};
+ghost use Rattle.resolvo.specs.Minimal.{IsRefutedPart, only_marked};
 ghost use Rattle.resolvo.specs.RuleClauses.{DecideRules};
 
 use super::decision::Verdict;
@@ -58,7 +58,7 @@ fn search_again<N, S>(
     requires size { length marks.old.items ≡ length rules.now }
     requires form { IfSome form.now (λ form. DecideRules rules.now form.variables form.clauses.items) }
     ensures size { OnOk result (length marks.new.items ≡ length rules.now) }
-    ensures refuted { OnOk result (IsRefuted (marked marks.old.items rules.now) → IsRefuted (marked marks.new.items rules.now)) }
+    ensures refuted { OnOk result (IsRefuted (only_marked marks.old.items rules.now) → IsRefuted (only_marked marks.new.items rules.now)) }
     ensures memory { IfErr result (λ e. e ≡ Exhausted.Memory) }
 {
     match used_rules(alloc, rules, form, marks)? {
@@ -79,7 +79,7 @@ fn used_again<N, S>(
 ) -> Result<Vec<bool>, Exhausted>
     requires form { IfSome form.now (λ form. DecideRules rules.now form.variables form.clauses.items) }
     ensures size { IfOk result (λ marks. length marks.items ≡ length rules.now) }
-    ensures refuted { IfOk result (λ marks. IsRefuted rules.now → IsRefuted (marked marks.items rules.now)) }
+    ensures refuted { IfOk result (λ marks. IsRefuted rules.now → IsRefuted (only_marked marks.items rules.now)) }
     ensures memory { IfErr result (λ e. e ≡ Exhausted.Memory) }
 {
     let mut marks = vec![in alloc; true; rules.len()]?;
@@ -103,7 +103,7 @@ fn try_without<N, S>(
     requires size { length marks.old.items ≡ length rules.now }
     requires form { IfSome form.now (λ form. DecideRules rules.now form.variables form.clauses.items) }
     ensures size { OnOk result (length marks.new.items ≡ length rules.now) }
-    ensures refuted { OnOk result (IsRefuted (marked marks.old.items rules.now) → IsRefuted (marked marks.new.items rules.now)) }
+    ensures refuted { OnOk result (IsRefuted (only_marked marks.old.items rules.now) → IsRefuted (only_marked marks.new.items rules.now)) }
     ensures memory { IfErr result (λ e. e ≡ Exhausted.Memory) }
 {
     if !marks[place] {
@@ -131,7 +131,7 @@ fn try_each<N, S>(
     requires size { length marks.old.items ≡ length rules.now }
     requires form { IfSome form.now (λ form. DecideRules rules.now form.variables form.clauses.items) }
     ensures size { OnOk result (length marks.new.items ≡ length rules.now) }
-    ensures refuted { OnOk result (IsRefuted (marked marks.old.items rules.now) → IsRefuted (marked marks.new.items rules.now)) }
+    ensures refuted { OnOk result (IsRefuted (only_marked marks.old.items rules.now) → IsRefuted (only_marked marks.new.items rules.now)) }
     ensures memory { IfErr result (λ e. e ≡ Exhausted.Memory) }
 {
     if marked_count(marks) > TRIM_TURNS {
@@ -151,7 +151,7 @@ fn trim<N, S>(
 ) -> Result<Vec<bool>, Exhausted>
     requires form { IfSome form.now (λ form. DecideRules rules.now form.variables form.clauses.items) }
     ensures size { IfOk result (λ marks. length marks.items ≡ length rules.now) }
-    ensures refuted { IfOk result (λ marks. IsRefuted rules.now → IsRefuted (marked marks.items rules.now)) }
+    ensures refuted { IfOk result (λ marks. IsRefuted rules.now → IsRefuted (only_marked marks.items rules.now)) }
     ensures memory { IfErr result (λ e. e ≡ Exhausted.Memory) }
 {
     let mut marks = used_again(alloc, rules, form)?;
@@ -171,7 +171,7 @@ pub fn trimmed_marks<N: Copy + Eq + Hash + Drop, S: Copy + Eq + Hash + Drop>(
     requires names { IsIdentity N.eq }
     requires solvables { IsIdentity S.eq }
     ensures size { IfOk result (λ marks. length marks.items ≡ length rules.now) }
-    ensures refuted { IfOk result (λ marks. IsRefuted rules.now → IsRefuted (marked marks.items rules.now)) }
+    ensures refuted { IfOk result (λ marks. IsRefuted rules.now → IsRefuted (only_marked marks.items rules.now)) }
     ensures memory { IfErr result (λ e. e ≡ Exhausted.Memory) }
 {
     let form = clauses_within(alloc, rules)?;

@@ -8,11 +8,11 @@ ghost use Rattle.resolver_clause_store.specs.Outcomes.{IsSatisfied};
 ghost use Rattle.resolver_clause_store.specs.TrailView.{IsCut, IsGrown, length_of, variable_count};
 ghost use Rattle.resolver_clause_store.specs.Literals.{Literal};
 ghost use Rattle.resolver_clause_store.specs.declared.Trail.{Trail};
-ghost use Rattle.resolvo.specs.Attaching.{AreAlike, EndsWith, Forces, IsAlike, IsHigh, IsHighPair, IsLower, IsNotBefore, IsOther, IsPairOf, Recalls, AreApart, Attaches, Pops, PopsOne};
+ghost use Rattle.resolvo.specs.Attaching.{AreAlike, HasLast, Forces, IsAlike, IsHigh, IsHighPair, IsLower, IsNotFalseBefore, IsOther, IsPairOf, Recalls, AreDistinctLiterals, Attaches, Pops, PopsOne};
 ghost use Rattle.resolvo.specs.Propagation.{IsConflict, IsJustified};
 ghost use Rattle.resolver_clause_store.specs.Settled.{IsOpen};
-ghost use Rattle.resolvo.specs.Propagators.{IsPropagator, attached_of, late_of, pending_of, Follows, IsConstant};
-ghost use Rattle.resolvo.specs.Returning.{FollowsCut};
+ghost use Rattle.resolvo.specs.Propagators.{IsPropagator, attached_of, late_of, pending_of, FollowsTrail, IsConstant};
+ghost use Rattle.resolvo.specs.Returning.{FollowsTrailCut};
 ghost use Rattle.resolvo.specs.WatchedClauses.{OwnsPair};
 ghost use Rattle.resolver_clause_store.specs.Watches.{HasLiteral, IsWatching, pair_at};
 ghost use Rattle.resolver_clause_store.specs.WatchesView.{lists_of, pairs_of};
@@ -47,7 +47,7 @@ impl Propagator {
     pub fn grow(&mut self, variables: usize) -> Result<(), AllocError>
         requires { length (lists_of self.old.watches) ≤ 2 * variables }
         ensures propagator { OnOk result
-            ((table : List (List Literal)) (old new : Trail) → IsGrown old new variables → Follows table old new self.old self.new) }
+            ((table : List (List Literal)) (old new : Trail) → IsGrown old new variables → FollowsTrail table old new self.old self.new) }
         ensures pairs { pairs_of self.new.watches ≡ pairs_of self.old.watches }
     {
         self.watches.grow(variables)?;
@@ -74,7 +74,7 @@ impl Propagator {
     /// Follows a trail from which whole levels were removed.
     pub fn cut(&mut self, trail: &Trail) -> Result<(), AllocError>
         ensures propagator { OnOk result
-            ((table : List (List Literal)) (old : Trail) → IsLower old trail.now → Follows table old trail.now self.old self.new) }
+            ((table : List (List Literal)) (old : Trail) → IsLower old trail.now → FollowsTrail table old trail.now self.old self.new) }
         ensures watches { self.new.watches ≡ self.old.watches }
     {
         self.recall(trail.len())?;
@@ -84,7 +84,7 @@ impl Propagator {
 
     /// Follows a trail that was cut to its first entries. All of these are to be propagated again.
     pub fn forget(&mut self, trail: &Trail) -> Result<(), AllocError>
-        ensures propagator { OnOk result (FollowsCut false trail.now self.old self.new) }
+        ensures propagator { OnOk result (FollowsTrailCut false trail.now self.old self.new) }
         ensures watches { self.new.watches ≡ self.old.watches }
     {
         self.recall(trail.len())?;
@@ -97,7 +97,7 @@ impl Propagator {
     /// Pops a pending clause that is satisfied.
     #[inline(always)]
     fn pass(&mut self, trail: &Trail, number: usize) -> Result<(), AllocError>
-        requires last { EndsWith (pending_of self.old) number }
+        requires last { HasLast (pending_of self.old) number }
         requires inside { number < attached_of self.old }
         requires below { (literal : Literal) → IsWatching (pairs_of self.old.watches) number literal → literal.variable < variable_count trail.now }
         ensures propagator { OnOk result (Pops IsSatisfied trail.now number self.old self.new) }
@@ -118,7 +118,7 @@ impl Propagator {
     /// Pops a pending clause that has two literals without a value. If a literal that it watches is false, that one is
     /// propagated again.
     fn reopen(&mut self, trail: &Trail, number: usize)
-        requires last { EndsWith (pending_of self.old) number }
+        requires last { HasLast (pending_of self.old) number }
         requires inside { number < attached_of self.old }
         requires below { (literal : Literal) → IsWatching (pairs_of self.old.watches) number literal → literal.variable < variable_count trail.now }
         ensures propagator { Pops IsOpen trail.now number self.old self.new }
@@ -176,7 +176,7 @@ fn are_high(trail: &Trail, pair: &WatchedPair) -> bool
 /// Returns the place at which a literal became false, or the end of the trail if it is not false.
 fn false_place(trail: &Trail, literal: Literal) -> usize
     requires { literal.variable < variable_count trail.now }
-    ensures { IsNotBefore trail.now result literal }
+    ensures { IsNotFalseBefore trail.now result literal }
 {
     let Some(slot) = trail.slot(literal.variable()) else {
         return trail.len();
@@ -301,7 +301,7 @@ fn apply_pending(
     requires below { AreBelow (variable_count trail.old) table.now }
     requires justified { IsJustified table.now trail.old }
     requires propagator { IsPropagator table.now trail.old propagator.old }
-    requires last { EndsWith (pending_of propagator.old) number }
+    requires last { HasLast (pending_of propagator.old) number }
     ensures answer { IfOk result (λ holds. MatchBool holds (PopsOne propagator.old propagator.new) (IsConflict trail.new table.now number)) }
     ensures propagator { OnOk result (IsPropagator table.now trail.new propagator.new) }
     ensures watches { propagator.new.watches ≡ propagator.old.watches }

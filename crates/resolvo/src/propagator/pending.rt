@@ -1,7 +1,7 @@
 //! The clauses that are pending.
 
 ghost use Rattle.std.specs.Prelude.{◌≡◌, ◌-◌, ◌++◌, ◌∷◌, [], MatchOption, OnErr, OnOk, length, take};
-ghost use Rattle.resolvo.specs.Attaching.{EndsWith};
+ghost use Rattle.resolvo.specs.Attaching.{HasLast};
 
 use std::alloc::{AllocError, Global};
 use std::marker::Model;
@@ -32,7 +32,7 @@ impl PendingClauses {
 
     /// Returns the number of the last clause, if there is one.
     pub fn last(&self) -> Option<usize>
-        ensures { MatchOption result (self.now ≡ []) (EndsWith self.now) }
+        ensures { MatchOption result (self.now ≡ []) (HasLast self.now) }
     {
         match self.numbers.last() {
             Some(number) => Some(*number as usize),

@@ -4,7 +4,7 @@ ghost use Rattle.std.specs.Prelude.{◌≡◌, ◌<◌, ◌≤◌, ℕ, List, On
 ghost use Rattle.resolver_clause_store.specs.TrailView.{IsCut, length_of};
 ghost use Rattle.resolver_clause_store.specs.Literals.{Literal};
 ghost use Rattle.resolver_clause_store.specs.declared.Trail.{Trail};
-ghost use Rattle.resolvo.specs.Returning.{BeginsLevel, FollowsCut};
+ghost use Rattle.resolvo.specs.Returning.{BeginsLevel, FollowsTrailCut};
 ghost use Rattle.resolvo.specs.Propagators.{IsPropagator};
 
 use super::Propagator;
@@ -30,7 +30,7 @@ impl Propagator {
     /// Follows a trail that was cut to its first entries. If a level began right after them, what was propagated of
     /// them stays propagated.
     pub fn return_to(&mut self, trail: &Trail, began: bool) -> Result<(), AllocError>
-        ensures propagator { OnOk result (FollowsCut began trail.now self.old self.new) }
+        ensures propagator { OnOk result (FollowsTrailCut began trail.now self.old self.new) }
         ensures watches { self.new.watches ≡ self.old.watches }
     {
         if began {

@@ -9,7 +9,7 @@ ghost use Rattle.resolver_clause_store.specs.declared.Watch.{Watch};
 ghost use Rattle.resolvo.specs.Propagation.{IsConflict, IsJustified, IsUnit, Propagates};
 ghost use Rattle.resolver_clause_store.specs.Settled.{AllSettled};
 ghost use Rattle.resolvo.specs.Propagators.{IsAttached, IsPropagator};
-ghost use Rattle.resolvo.specs.Visits.{FailsAt, GoesOnAt, IsPaired, IsPlaced, IsVisiting, WatchOutcomeIs, ReplacesAt, StandsAt, late_with};
+ghost use Rattle.resolvo.specs.Visits.{FailsAt, GoesOnAt, IsPaired, IsWatchPlaced, IsVisiting, WatchOutcomeIs, ReplacesAt, IsWatchedAt, late_with};
 ghost use Rattle.resolvo.specs.WatchedClauses.{AreOwned};
 ghost use Rattle.resolver_clause_store.specs.Watches.{IsWatching};
 ghost use Rattle.resolver_clause_store.specs.WatchesView.{HasList, pairs_of};
@@ -169,7 +169,7 @@ impl Propagator {
         placed: &PlacedWatch,
     ) -> Result<WatchOutcome, AllocError>
         requires visiting { IsVisiting table.now trail.now self.old falsified.now placed.now.place }
-        requires stands { StandsAt (watchers_of self.old falsified.now.literal) placed.now.place placed.now.watch.number }
+        requires stands { IsWatchedAt (watchers_of self.old falsified.now.literal) placed.now.place placed.now.watch.number }
         requires inside { placed.now.watch.number < attached_of self.old }
         requires satisfied { IsSatisfied trail.now (clause_at table.now placed.now.watch.number) }
         ensures outcome { IfOk result (WatchOutcomeIs table.now trail.now self.old self.new falsified.now placed.now.place) }
@@ -189,7 +189,7 @@ impl Propagator {
         watcher: &Watcher,
     ) -> Result<WatchOutcome, AllocError>
         requires visiting { IsVisiting table.now trail.now self.old falsified.now watcher.now.placed.place }
-        requires stands { IsPlaced (watchers_of self.old falsified.now.literal) watcher.now.placed }
+        requires stands { IsWatchPlaced (watchers_of self.old falsified.now.literal) watcher.now.placed }
         requires inside { watcher.now.placed.watch.number < attached_of self.old }
         requires pair { IsPaired (pairs_of self.old.watches) watcher.now.placed.watch.number falsified.now.literal watcher.now.other }
         requires satisfied { literal_value trail.now watcher.now.other ≡ Some true }
@@ -212,7 +212,7 @@ impl Propagator {
     ) -> Result<WatchOutcome, AllocError>
         requires visiting { IsVisiting table.now trail.old self.old falsified.now watcher.now.placed.place }
         requires justified { IsJustified table.now trail.old }
-        requires stands { IsPlaced (watchers_of self.old falsified.now.literal) watcher.now.placed }
+        requires stands { IsWatchPlaced (watchers_of self.old falsified.now.literal) watcher.now.placed }
         requires inside { watcher.now.placed.watch.number < attached_of self.old }
         requires pair { IsPaired (pairs_of self.old.watches) watcher.now.placed.watch.number falsified.now.literal watcher.now.other }
         requires unit { IsUnit trail.old watcher.now.other (clause_at table.now watcher.now.placed.watch.number) }
@@ -245,7 +245,7 @@ impl Propagator {
     ) -> Result<WatchOutcome, AllocError>
         requires visiting { IsVisiting table.now trail.old self.old falsified.now watcher.now.placed.place }
         requires justified { IsJustified table.now trail.old }
-        requires stands { IsPlaced (watchers_of self.old falsified.now.literal) watcher.now.placed }
+        requires stands { IsWatchPlaced (watchers_of self.old falsified.now.literal) watcher.now.placed }
         requires inside { watcher.now.placed.watch.number < attached_of self.old }
         requires pair { IsPaired (pairs_of self.old.watches) watcher.now.placed.watch.number falsified.now.literal watcher.now.other }
         requires not_true { literal_value trail.old watcher.now.other ≢ Some true }
@@ -289,7 +289,7 @@ impl Propagator {
     ) -> Result<WatchOutcome, AllocError>
         requires visiting { IsVisiting table.now trail.old self.old falsified.now placed.now.place }
         requires justified { IsJustified table.now trail.old }
-        requires stands { IsPlaced (watchers_of self.old falsified.now.literal) placed.now }
+        requires stands { IsWatchPlaced (watchers_of self.old falsified.now.literal) placed.now }
         requires inside { placed.now.watch.number < attached_of self.old }
         requires watching { IsWatching (pairs_of self.old.watches) placed.now.watch.number falsified.now.literal }
         ensures outcome { IfOk result (WatchOutcomeIs table.now trail.new self.old self.new falsified.now placed.now.place) }
@@ -320,7 +320,7 @@ impl Propagator {
     ) -> Result<WatchOutcome, AllocError>
         requires visiting { IsVisiting table.now trail.old self.old falsified.now binary.now.placed.place }
         requires justified { IsJustified table.now trail.old }
-        requires stands { IsPlaced (watchers_of self.old falsified.now.literal) binary.now.placed }
+        requires stands { IsWatchPlaced (watchers_of self.old falsified.now.literal) binary.now.placed }
         requires inside { binary.now.placed.watch.number < attached_of self.old }
         requires watching { IsWatching (pairs_of self.old.watches) binary.now.placed.watch.number falsified.now.literal }
         requires own { Contains (clause_at table.now binary.now.placed.watch.number) binary.now.other }
@@ -348,7 +348,7 @@ impl Propagator {
         requires list { HasList self.now.watches falsified.now.literal }
         requires from { from ≤ length (watchers_of self.now falsified.now.literal) }
         requires below { All (λ (watch : Watch). watch.blocker.variable < variable_count trail.now) (watchers_of self.now falsified.now.literal) }
-        ensures placed { IfSome result (λ placed. IsPlaced (watchers_of self.now falsified.now.literal) placed) }
+        ensures placed { IfSome result (λ placed. IsWatchPlaced (watchers_of self.now falsified.now.literal) placed) }
         ensures watching { IfSome result (λ placed. IsWatching (pairs_of self.now.watches) placed.watch.number falsified.now.literal) }
         ensures above { IfSome result (λ placed. from ≤ placed.place) }
         ensures visiting { GoesOnAt trail.now self.now falsified.now from result }
@@ -372,7 +372,7 @@ impl Propagator {
     ) -> Result<WatchOutcome, AllocError>
         requires visiting { IsVisiting table.now trail.old self.old falsified.now placed.now.place }
         requires justified { IsJustified table.now trail.old }
-        requires stands { IsPlaced (watchers_of self.old falsified.now.literal) placed.now }
+        requires stands { IsWatchPlaced (watchers_of self.old falsified.now.literal) placed.now }
         requires inside { placed.now.watch.number < attached_of self.old }
         requires watching { IsWatching (pairs_of self.old.watches) placed.now.watch.number falsified.now.literal }
         ensures outcome { IfOk result (WatchOutcomeIs table.now trail.new self.old self.new falsified.now placed.now.place) }

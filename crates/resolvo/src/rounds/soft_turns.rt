@@ -31,7 +31,7 @@ fn has_any<T: Eq + Hash>(set: &IndexSet<T>, list: &[T]) -> bool
 }
 
 impl<N: Copy + Eq + Hash + Drop, S: Copy + Eq + Hash + Drop> Rounds<N, S> {
-    ghost use Rattle.resolvo.specs.RoundStates.{AreAtRest, AreRounds, HasAsked, IsStuck, KeepsRoom, TakesAll, TakesFirst, TakesTurns};
+    ghost use Rattle.resolvo.specs.RoundStates.{AreAtRest, AreRounds, HasAsked, IsStuck, KeepsRoundLimits, TakesAll, TakesFirst, TakesTurns};
     ghost use Rattle.resolvo.specs.RoundStates.{chosen_of, notes_of};
 
     /// Gives candidates of asked packages their turns until one is accepted. Returns whether one is.
@@ -48,7 +48,7 @@ impl<N: Copy + Eq + Hash + Drop, S: Copy + Eq + Hash + Drop> Rounds<N, S> {
         ensures is_true { IsTrueCache (D.universe provider.now) cache.new }
         ensures rest { OnOk result (AreAtRest (D.universe provider.now) self.new) }
         ensures turned { IfOk result (TakesFirst (D.universe provider.now) candidates.now self.old self.new) }
-        ensures limits { KeepsRoom self.old self.new }
+        ensures limits { KeepsRoundLimits self.old self.new }
         ensures refusal { IfErr result (IsStop (D.may_cancel provider.now) (IsStuck self.new)) }
     {
         for candidate in candidates {
@@ -71,7 +71,7 @@ impl<N: Copy + Eq + Hash + Drop, S: Copy + Eq + Hash + Drop> Rounds<N, S> {
         ensures is_true { IsTrueCache (D.universe provider.now) cache.new }
         ensures rest { OnOk result (AreAtRest (D.universe provider.now) self.new) }
         ensures asked { OnOk result (HasAsked (D.universe provider.now) version_set self.old self.new) }
-        ensures limits { KeepsRoom self.old self.new }
+        ensures limits { KeepsRoundLimits self.old self.new }
         ensures refusal { IfErr result (IsStop (D.may_cancel provider.now) (IsStuck self.new)) }
     {
         let name = provider.version_set_name(version_set);
@@ -93,7 +93,7 @@ impl<N: Copy + Eq + Hash + Drop, S: Copy + Eq + Hash + Drop> Rounds<N, S> {
         ensures is_true { IsTrueCache (D.universe provider.now) cache.new }
         ensures rest { OnOk result (AreAtRest (D.universe provider.now) self.new) }
         ensures between { OnOk result (TakesTurns (D.universe provider.now) (Matching version_set ∷ []) self.old self.new) }
-        ensures limits { KeepsRoom self.old self.new }
+        ensures limits { KeepsRoundLimits self.old self.new }
         ensures refusal { IfErr result (IsStop (D.may_cancel provider.now) (IsStuck self.new)) }
     {
         let candidates = requirement_candidates(cache, provider, Requirement::Single(version_set))?;
@@ -117,7 +117,7 @@ impl<N: Copy + Eq + Hash + Drop, S: Copy + Eq + Hash + Drop> Rounds<N, S> {
         ensures is_true { IsTrueCache (D.universe provider.now) cache.new }
         ensures rest { OnOk result (AreAtRest (D.universe provider.now) self.new) }
         ensures between { OnOk result (TakesTurns (D.universe provider.now) (requirement ∷ []) self.old self.new) }
-        ensures limits { KeepsRoom self.old self.new }
+        ensures limits { KeepsRoundLimits self.old self.new }
         ensures refusal { IfErr result (IsStop (D.may_cancel provider.now) (IsStuck self.new)) }
     {
         match requirement {
@@ -149,7 +149,7 @@ impl<N: Copy + Eq + Hash + Drop, S: Copy + Eq + Hash + Drop> Rounds<N, S> {
         ensures is_true { IsTrueCache (D.universe provider.now) cache.new }
         ensures rest { OnOk result (AreAtRest (D.universe provider.now) self.new) }
         ensures between { OnOk result (TakesAll (D.universe provider.now) (Drains I.next_gives soft) (map Solvable) self.old self.new) }
-        ensures limits { KeepsRoom self.old self.new }
+        ensures limits { KeepsRoundLimits self.old self.new }
         ensures refusal { IfErr result (IsStop (D.may_cancel provider.now) (IsStuck self.new)) }
     {
         for solvable in soft {
@@ -170,7 +170,7 @@ impl<N: Copy + Eq + Hash + Drop, S: Copy + Eq + Hash + Drop> Rounds<N, S> {
         ensures is_true { IsTrueCache (D.universe provider.now) cache.new }
         ensures rounds { OnOk result (AreRounds (D.universe provider.now) self.new) }
         ensures between { OnOk result (TakesTurns (D.universe provider.now) list.now self.old self.new) }
-        ensures limits { KeepsRoom self.old self.new }
+        ensures limits { KeepsRoundLimits self.old self.new }
         ensures refusal { IfErr result (IsStop (D.may_cancel provider.now) (IsStuck self.new)) }
     {
         for requirement in list {
@@ -193,7 +193,7 @@ impl<N: Copy + Eq + Hash + Drop, S: Copy + Eq + Hash + Drop> Rounds<N, S> {
         ensures is_true { IsTrueCache (D.universe provider.now) cache.new }
         ensures rest { OnOk result (AreAtRest (D.universe provider.now) self.new) }
         ensures between { OnOk result (TakesAll (D.universe provider.now) (AreItems I.next_gives soft) (map Solvable) self.old self.new) }
-        ensures limits { KeepsRoom self.old self.new }
+        ensures limits { KeepsRoundLimits self.old self.new }
         ensures refusal { IfErr result (IsStop (D.may_cancel provider.now) (IsStuck self.new)) }
     {
         match soft {
@@ -224,7 +224,7 @@ impl<N: Copy + Eq + Hash + Drop, S: Copy + Eq + Hash + Drop> Rounds<N, S> {
         ensures rounds { OnOk result (AreRounds (D.universe provider.now) self.new) }
         ensures between { OnOk result
             (TakesAll (D.universe provider.now) (AreItems I.next_gives soft) (λ items. map Solvable items ++ list.now) self.old self.new) }
-        ensures limits { KeepsRoom self.old self.new }
+        ensures limits { KeepsRoundLimits self.old self.new }
         ensures refusal { IfErr result (IsStop (D.may_cancel provider.now) (IsStuck self.new)) }
     {
         self.given_turns(provider, cache, soft)?;

@@ -1,7 +1,7 @@
 use Rattle.std.proofs.Common.{◌≡◌, sym, subst}
 use Rattle.std.proofs.lemmas.Result.{IfErr-weaker, IfOk-weaker, err_from_is_err_and}
 use Rattle.resolve.specs.Guards.{ReadsGuard, RefusesGuard}
-use Rattle.resolve.specs.Readings.{EndsWith, RefusesEnd}
+use Rattle.resolve.specs.Readings.{EndsWithSteps, RefusesEnd}
 use Rattle.resolve.specs.WordsView.{words_left}
 use Rattle.resolve.proofs.ReadingLemmas.{IfErr-is, read_on, reads_guard, refuses_end, refuses_word}
 use Rattle.resolve.proofs.condition.parse_condition.Goals as goal
@@ -24,7 +24,7 @@ returns-in_err-read_word-clause-bad c =
 pub returns-clause-guard : goal.returns-clause-guard
 returns-clause-guard c =
     let before = c.loop-word.invariant in
-    IfOk-weaker c.finish.result (λ steps. EndsWith before.at steps.items) (λ steps. ReadsGuard (words_left c.args.words) steps.items)
+    IfOk-weaker c.finish.result (λ steps. EndsWithSteps before.at steps.items) (λ steps. ReadsGuard (words_left c.args.words) steps.items)
     (λ steps ends. reads_guard (words_left c.args.words) _ c.loop-word.reading steps.items before c.in-None.ensures.steps.0 ends)
     (c.finish.ensures.ends before.at before.shows)
 

@@ -1,17 +1,17 @@
 use Rattle.std.proofs.Common.{◌≡◌, ◌∙◌, ap, None}
-use Rattle.resolvo.specs.Problems.{demands_in, list_in, soft_in}
+use Rattle.resolvo.specs.Problems.{list_in, root_demands, soft_in}
 use Rattle.resolvo.specs.Solvers.{exempt_in, provider_in}
 use Rattle.resolver_clause_store.specs.Universe.{Demands}
 use Rattle.resolve.specs.Catalogs.{tables_in}
 use Rattle.resolve.specs.InputsView.{input_in}
-use Rattle.resolve.specs.Universes.{demands_of}
+use Rattle.resolve.specs.Universes.{input_demands}
 use Rattle.resolve.proofs.OutcomeLemmas.{solved_by}
 use Rattle.resolve.proofs.run.solve_request.Goals as goal
 
 pub returns-clause-outcome : goal.returns-clause-outcome
 returns-clause-outcome c =
     let request = c.args.request in
-    let demands : demands_in c.soft_list-problem.result ≡ demands_of (input_in request) = c.soft_list-problem.ensures.demands ∙
+    let demands : root_demands c.soft_list-problem.result ≡ input_demands (input_in request) = c.soft_list-problem.ensures.demands ∙
     c.constraints.ensures.demands ∙ ap (λ (d : Demands). record d { constraints = request.constraints.items }) c.requirements.ensures.demands in
     let provider : provider_in c.new-solver.result ≡ request.catalog = c.new-solver.ensures.provider in
     c.outcome_of-outcome.ensures.outcome (input_in request) (ap tables_in (c.solve-answered.ensures.provider ∙ provider))

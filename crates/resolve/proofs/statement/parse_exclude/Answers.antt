@@ -8,7 +8,7 @@ use Rattle.resolve.proofs.StatementLemmas.{reasoned, unsaid}
 use Rattle.resolve.proofs.statement.parse_exclude.Goals as goal
 
 pub returns-in_default : goal.returns-in_default
-returns-in_default c = unsaid Exclude (line_left c.args.words) (λ h. c.in_default.ensures h.0 h.1 h.2)
+returns-in_default c = unsaid Exclude (line_left c.args.words) (λ h. c.in_default.ensures.none h.0 h.1 h.2)
 
 pub returns : goal.returns
 returns c = λ line b.
@@ -16,6 +16,6 @@ returns c = λ line b.
     let reason = c.in-Some.reason.now in
     record {
       said = excludes it reason;
-      says = reasoned line (codes "exclude") (line_left c.args.words) it reason b c.in-Some.ensures;
+      says = reasoned line (codes "exclude") (line_left c.args.words) it reason b c.in-Some.ensures.read;
       is = refl;
     }

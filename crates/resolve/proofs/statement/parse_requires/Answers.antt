@@ -8,11 +8,11 @@ use Rattle.resolve.proofs.StatementLemmas.{follows, need_for_unsaid, unsaid}
 use Rattle.resolve.proofs.statement.parse_requires.Goals as goal
 
 pub returns-in_default : goal.returns-in_default
-returns-in_default c = λ line b. unsaid Requires (line_left c.args.words) (λ h. c.in_default.ensures.exact h.0 h.1 h.2 h.4 h.5) line b
+returns-in_default c = λ line b. unsaid Requires (line_left c.args.words) (λ h. c.in_default.ensures.none h.0 h.1 h.2 h.4 h.5) line b
 
 pub returns-in-Ok : goal.returns-in-Ok
 returns-in-Ok c = λ line b.
-    let first = c.in-Some.ensures.exact in
+    let first = c.in-Some.ensures.read in
     let read = c.in-Ok.ensures.read in
     record {
       said = requires_for (named_of c.in-Some.solvable) read.0;
@@ -22,4 +22,4 @@ returns-in-Ok c = λ line b.
 
 pub returns-in-Err : goal.returns-in-Err
 returns-in-Err c = λ line b.
-    let first = c.in-Some.ensures.exact in need_for_unsaid line (line_left c.args.words) first.0 _ c.in-Err.e first.1 c.in-Err.ensures.bad b
+    let first = c.in-Some.ensures.read in need_for_unsaid line (line_left c.args.words) first.0 _ c.in-Err.e first.1 c.in-Err.ensures.bad b

@@ -8,5 +8,5 @@ returns-in_default c = unsaid Soft (line_left c.args.words) (soft_unread (line_l
 
 pub returns-in_default-parse_spec : goal.returns-in_default-parse_spec
 returns-in_default-parse_spec c =
-    unsaid Soft (line_left c.args.words) (soft_unsaid (line_left c.args.words) c.in-Some.word.now c.in-Some.ensures c.in_default-parse_solvable.ensures
+    unsaid Soft (line_left c.args.words) (soft_unsaid (line_left c.args.words) c.in-Some.word.now c.in-Some.ensures c.in_default-parse_solvable.ensures.none
     c.in_default-parse_spec.ensures)

@@ -4,7 +4,7 @@ use Rattle.resolver_clause_store.specs.Candidates.{matching, requirement_candida
 use Rattle.resolver_clause_store.specs.declared.ClauseKind.{ClauseKind}
 use Rattle.resolver_clause_store.specs.declared.VersionSetId.{VersionSetId}
 use Rattle.resolver_clause_store.specs.declared.By.TheVariants.{Solvable as BySolvable}
-use Rattle.resolver_encoding.specs.Groups.{IsNamed}
+use Rattle.resolver_encoding.specs.Groups.{IsInGroup}
 use Rattle.resolver_encoding.specs.Listing.{AddsRules, StatesRule, SomeOf}
 use Rattle.resolver_clause_store.specs.Statements.{constrains, requires}
 use Rattle.resolver_encoding.proofs.ListingLemmas.{added_same}
@@ -31,7 +31,7 @@ returns-in_ok-add_gate-in-GateRequires g c =
           let r = c.in-GateRequires.requirement in
           let Adds : ClauseKind g.row.D-NameId.Denot g.row.D-SolvableId.Denot → Type 0 =
           λ k. AddsRules (StatesRule u c.args.sources.now k) c.args.listing.now c.add_gate.new.listing in
-          let named = IsNamed c.args.sources.now.gates r in
+          let named = IsInGroup c.args.sources.now.gates r in
           subst Adds (sym c.in-GateRequires.is) (added_same c.args.listing.now c.add_gate.new.listing
           (SomeOf c.requirers-requirers.result.now (λ s st. st ≡ requires (BySolvable s) r (requirement_candidates u r) [])) _
           (λ st h. (h.0, All-contains named c.requirers-requirers.result.now h.0 c.requirers-requirers.ensures.each h.1, h.2))
@@ -59,7 +59,7 @@ returns-in_ok-constrain_each-in-ConstrainsParent g c =
           let v = c.in-ConstrainsParent.version_set in
           let Adds : ClauseKind g.row.D-NameId.Denot g.row.D-SolvableId.Denot → Type 0 =
           λ k. AddsRules (StatesRule u c.args.sources.now k) c.args.listing.now c.constrain_each.new.listing in
-          let named = IsNamed c.args.sources.now.helpers v in
+          let named = IsInGroup c.args.sources.now.helpers v in
           subst Adds (sym c.in-ConstrainsParent.is) (added_same c.args.listing.now c.constrain_each.new.listing
           (SomeOf c.excluded-excluded.result.now (λ s st. st ≡ constrains by v s)) _
           (λ st h. (h.0, All-contains named c.excluded-excluded.result.now h.0 c.excluded-excluded.ensures.each h.1, h.2))

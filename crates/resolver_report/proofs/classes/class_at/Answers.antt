@@ -1,6 +1,6 @@
 use Rattle.std.proofs.Common.{◌≡◌, rules, ap, ◌∙◌}
 use Rattle.resolver_report.specs.Merging.{same_side}
-use Rattle.resolver_report.specs.Listed.{items_at}
+use Rattle.resolver_report.specs.Listed.{optional_items}
 use Rattle.resolver_report.specs.contracts.graph.SideOrd.TheImpl.Laws.{total-law, matches_eq-law}
 use Rattle.resolver_report.specs.contracts.graph.SideOrd.TheImpl.{cmp-value}
 use Rattle.resolver_report.specs.contracts.graph.SidePartialEq.TheImpl.{eq-value}
@@ -14,13 +14,13 @@ sides_match x y = let same : same_side x y ≡ eq-value.it x y = search rules in
 
 pub returns-in-Some-get : goal.returns-in-Some-get
 returns-in-Some-get c = λ ks are.
-    c.deref.ensures.value ∙ ap items_at c.in-Some-get.ensures.value ∙ c.requires.classes c.in-Some.key ∙
+    c.deref.ensures.value ∙ ap optional_items c.in-Some-get.ensures.value ∙ c.requires.classes c.in-Some.key ∙
     class_of_key _ total-law sides_match ks c.args.keys.now are c.args.n c.index-keys-n.result c.in-Some.key c.requires.in_range c.index-keys-n.is
     c.in-Some.is
 
 pub returns-in-None-get : goal.returns-in-None-get
 returns-in-None-get c = λ ks are.
-    ap items_at c.in-None-get.ensures.value ∙ c.requires.classes c.in-Some.key ∙
+    ap optional_items c.in-None-get.ensures.value ∙ c.requires.classes c.in-Some.key ∙
     class_of_key _ total-law sides_match ks c.args.keys.now are c.args.n c.index-keys-n.result c.in-Some.key c.requires.in_range c.index-keys-n.is
     c.in-Some.is
 

@@ -1,5 +1,5 @@
 use Rattle.std.proofs.Common.{◌≡◌, ◌∙◌, ◌-◌, ◌<◌, ◌∷◌, [], List, ap, sym, subst, take}
-use Rattle.resolver_report.specs.Searching.{IsSearching, IsStep, search_work, untried_view}
+use Rattle.resolver_report.specs.Searching.{IsSearchStep, IsSearching, search_work, untried_view}
 use Rattle.resolver_report.proofs.ChoiceLemmas.{advance_up, untried_pushed}
 use Rattle.resolver_report.proofs.PendingLemmas.{no_item}
 use Rattle.resolver_report.proofs.plain.advance.Goals as goal
@@ -35,6 +35,6 @@ returns-clause-step g c =
     let popped : untried_view c.args.untried.now.items ≡ c.in-Some.level.candidates.now ∷ untried_view c.pop.new.self.items =
     ap untried_view c.in-Some.ensures.items ∙ untried_pushed c.pop.new.self.items c.in-Some.level in
     let After : List (List g.row.S.Denot) → Type 0 =
-    λ all. IsStep equal rules c.choose.new.set.items (untried_view c.choose.new.untried.items)
+    λ all. IsSearchStep equal rules c.choose.new.set.items (untried_view c.choose.new.untried.items)
     (search_work equal rules c.args.set.now.items all) c.in_ok-step.step in
     subst After (sym popped) c.in_ok-step.ensures.step

@@ -1,5 +1,5 @@
 use Rattle.std.proofs.Common.{◌≡◌, ◌∙◌, ◌++◌, ◌∷◌, [], List, ap, sym, subst}
-use Rattle.resolver_report.specs.Searching.{IsChosen, IsSearching, IsStep, search_work, untried_view, work_of_choice}
+use Rattle.resolver_report.specs.Searching.{IsAfterChoice, IsSearchStep, IsSearching, search_work, untried_view, work_of_choice}
 use Rattle.resolver_report.proofs.ChoiceLemmas.{advance_down, step_within, untried_pushed}
 use Rattle.resolver_report.proofs.plain.choose.Goals as goal
 
@@ -9,7 +9,7 @@ enter-requires-clause-chosen g c =
     let lists = untried_view c.args.untried.now.items in
     let pushed : untried_view c.push.new.self.items ≡ rest ∷ lists = ap untried_view c.in_ok-push.ensures.items ∙ untried_pushed c.args.untried.now.items _ in
     let Searching : List g.row.S.Denot → Type 0 = λ first. IsSearching c.args.rules.now c.args.set.now.items (first ∷ lists) in
-    let Chosen : List g.row.S.Denot → List (List g.row.S.Denot) → Type 0 = λ set all. IsChosen c.args.rules.now set all in
+    let Chosen : List g.row.S.Denot → List (List g.row.S.Denot) → Type 0 = λ set all. IsAfterChoice c.args.rules.now set all in
     let down = advance_down g.S.PartialEq.eq c.args.rules.now c.args.set.now.items rest c.args.solvable lists c.requires.solvables
     (subst Searching c.requires.candidates c.requires.searching) in
     subst (λ set. Chosen set (untried_view c.push.new.self.items)) (sym c.in_ok-push-2.ensures.items)
@@ -29,7 +29,7 @@ returns-clause-step g c =
     (c.args.set.now.items ++ c.args.solvable ∷ []) (rest ∷ lists) =
     λ i. work_of_choice equal rules (c.in_ok-push-2.ensures.items i) (pushed i) in
     let After : List g.row.S.Denot → Type 0 =
-    λ first. IsStep equal rules c.enter.new.set.items (untried_view c.enter.new.untried.items)
+    λ first. IsSearchStep equal rules c.enter.new.set.items (untried_view c.enter.new.untried.items)
     (search_work equal rules c.args.set.now.items (first ∷ lists)) c.in_ok-step.step in
     subst After (sym c.requires.candidates)
     (step_within equal rules c.enter.new.set.items (untried_view c.enter.new.untried.items) _ _ c.in_ok-step.step bound down.1 c.in_ok-step.ensures.step)

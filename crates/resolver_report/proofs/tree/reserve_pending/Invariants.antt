@@ -1,5 +1,5 @@
 use Rattle.std.proofs.Common.{◌≡◌, string_bytes}
-use Rattle.resolver_report.specs.PendingTexts.{HasLevels, pending_view, pending_work}
+use Rattle.resolver_report.specs.PendingTexts.{HasLevels, pending_view, telling_work}
 use Rattle.resolver_report.proofs.tree.reserve_pending.Given as goal
 
 -- the text does not change
@@ -10,4 +10,4 @@ invariant-loop-line g l = record {
 }
 
 abbrev pub decreases-loop-line : goal.decreases-loop-line
-decreases-loop-line g l = pending_work g.I.Interner.universe l.outline (pending_view l.pending)
+decreases-loop-line g l = telling_work g.I.Interner.universe l.outline (pending_view l.pending)

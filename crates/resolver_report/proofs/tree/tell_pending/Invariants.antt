@@ -1,5 +1,5 @@
 use Rattle.std.proofs.Common.{◌≡◌, ◌++◌, string_bytes}
-use Rattle.resolver_report.specs.PendingTexts.{HasLevels, pending_text, pending_view, pending_work}
+use Rattle.resolver_report.specs.PendingTexts.{HasLevels, pending_text, pending_view, telling_work}
 use Rattle.resolver_report.proofs.tree.tell_pending.Given as goal
 
 -- the text written so far and the text still to be told are the whole text
@@ -11,4 +11,4 @@ invariant-loop g l = record {
 }
 
 abbrev pub decreases-loop : goal.decreases-loop
-decreases-loop g l = pending_work g.I.Interner.universe l.outline (pending_view l.pending)
+decreases-loop g l = telling_work g.I.Interner.universe l.outline (pending_view l.pending)

@@ -1,7 +1,7 @@
 use Rattle.std.proofs.Common.{◌≡◌, ◌∷◌, ℕ, ◌∙◌, ◌-◌, ◌+◌, ◌<◌, length, get_or, arith, false, true, List, Bool, sym, ap, subst}
 use Rattle.std.proofs.lemmas.List.{get_or_default, length_push, length-append, length-replicate}
 use Rattle.resolver_clause_store.specs.Rules.{IsRefuted}
-use Rattle.resolvo.specs.Minimal.{IsRefutedPart, marked, others_of}
+use Rattle.resolvo.specs.Minimal.{IsRefutedPart, only_marked, others_of}
 use Rattle.resolvo.proofs.MinimalLemmas.{turn_kept, turn_left_out, turn_skipped}
 use Rattle.resolvo.proofs.RotationLemmas.{marked_needed, needed_next}
 use Rattle.std.specs.Prelude.{replicate}
@@ -84,7 +84,7 @@ returns-clause-underway g c =
     let marks : c.deref-2.result.now ≡ others_of kept spare =
     same_marks (length rules) c.deref-2.result.now c.in_ok-marks.marks.items c.deref.result.now kept c.deref-2.ensures.value c.in_ok-marks.ensures
     c.deref.ensures.value in
-    let Obeyed : List Bool → Type 0 = λ q. IsRefuted (marked q rules) → ⊥ in
+    let Obeyed : List Bool → Type 0 = λ q. IsRefuted (only_marked q rules) → ⊥ in
     let is = c.in_ok-push-in-Obeyed.ensures.items in
     let noted = c.in_ok-note_needed-in-Obeyed.ensures in
     let after = c.note_needed.new.turns in

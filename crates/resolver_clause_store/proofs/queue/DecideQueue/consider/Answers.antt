@@ -1,7 +1,7 @@
 use Rattle.std.proofs.Common.{ℕ, arith, false, refl, subst, sym, get_or, length, ◌≡◌, ◌<◌}
 use Rattle.std.proofs.lemmas.List.{get_or_default}
 use Rattle.resolver_clause_store.specs.declared.clauses.StoredRequirement.{StoredRequirement}
-use Rattle.resolver_clause_store.specs.Decisions.{IsFirst}
+use Rattle.resolver_clause_store.specs.Decisions.{IsFirstUnassigned}
 use Rattle.resolver_clause_store.specs.Formula.{clause_at}
 use Rattle.resolver_clause_store.specs.LastOpens.{IsOpenSince}
 use Rattle.resolver_clause_store.proofs.QueueLemmas.{held-by_candidate, held-inactive, left-read, parked-more, queued-settled}
@@ -70,7 +70,7 @@ returns-in-Some-clause-queued c =
     let none : StoredRequirement = record { number = 0; of_root = false } in
     let inside : c.index-number.result.now < length c.args.requirements.now = omega (arith, c.if-index-requirements.false) in
     let requirement : StoredRequirement = get_or c.args.requirements.now c.index-number.result.now none in
-    let first : IsFirst c.args.trail.now (clause_at c.args.table.now requirement.number) c.in-Some.first =
+    let first : IsFirstUnassigned c.args.trail.now (clause_at c.args.table.now requirement.number) c.in-Some.first =
     rw c.clause-literals.ensures at (c.in-Some.ensures (λ last is same.
     let Since : ℕ → Type 0 = λ i. IsOpenSince c.args.trail.now (clause_at c.args.table.now (get_or c.args.requirements.now i none).number)
     last.first last.count in

@@ -1,13 +1,13 @@
 use Rattle.std.proofs.Common.{Contains, rules, subst, sym, ◌∙◌}
 use Rattle.resolver_clause_store.specs.KnownVariables.{KnownVariables}
-use Rattle.resolver_clause_store.specs.Variables.{AreDistinct, IsFull, Keeps}
+use Rattle.resolver_clause_store.specs.Variables.{AreDistinct, AreFull, Keeps}
 use Rattle.resolver_clause_store.proofs.PlaceLemmas.{AreDistinct-from, AreDistinct-push, Keeps-push}
 use Rattle.resolver_clause_store.proofs.ListLemmas.{slice_get-last as place_last}
 use Rattle.resolver_clause_store.proofs.variables.Variables.allocate.Goals as goal
 
 pub returns-then-index-self-clause-ids : goal.returns-then-index-self-clause-ids
 returns-then-index-self-clause-ids g c = λ _.
-    let Full : KnownVariables g.row.N.Denot g.row.S.Denot → Type 0 = λ v. IsFull v in
+    let Full : KnownVariables g.row.N.Denot g.row.S.Denot → Type 0 = λ v. AreFull v in
     subst Full c.self.view_is
     (record { count = sym c.len-index.ensures.len ∙ c.if-index-self.true; distinct = AreDistinct-from _ (search rules) _ c.len-index.ensures.unique })
 

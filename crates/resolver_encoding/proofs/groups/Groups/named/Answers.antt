@@ -1,7 +1,7 @@
 use Rattle.std.proofs.Common.{◌≡◌, ℕ, List, subst, sym, Contains}
 use Rattle.std.specs.Prelude.{Some, slice_get}
 use Rattle.std.proofs.lemmas.List.Elements.{All-contains_itself, All-nil, All-weaker}
-use Rattle.resolver_encoding.specs.Groups.{IsNamed, group_at}
+use Rattle.resolver_encoding.specs.Groups.{IsInGroup, group_at}
 use Rattle.resolver_clause_store.proofs.ListLemmas.{Contains-at as place_in}
 use Rattle.resolver_encoding.proofs.groups.Groups.named.Goals as goal
 
@@ -14,7 +14,7 @@ returns-in-Some g c =
     let at : slice_get c.args.self.now.names.keys place ≡ Some name = rw c.in-Some.is at c.place_of.ensures.place in
     let is : list ≡ group_at members place = c.at.ensures in
     record {
-      each = All-weaker (Contains list) (IsNamed c.args.self.now name) (λ s h.
+      each = All-weaker (Contains list) (IsInGroup c.args.self.now name) (λ s h.
           let Has : List g.row.S.Denot → Type 0 = λ xs. Contains xs s in
           record { place = place; named = at; inside = subst Has is h }) list (All-contains_itself list);
       every = λ sound s h.
@@ -39,4 +39,4 @@ returns-in-None-clause-every_at g c = λ sound k s h.
     absurd ((rw c.in-None.is at c.place_of.ensures.absent) (place_in c.args.self.now.names.keys h.place c.args.name h.named))
 
 pub returns-in-None-clause-each : goal.returns-in-None-clause-each
-returns-in-None-clause-each g c = All-nil (IsNamed c.args.self.now c.args.name)
+returns-in-None-clause-each g c = All-nil (IsInGroup c.args.self.now c.args.name)

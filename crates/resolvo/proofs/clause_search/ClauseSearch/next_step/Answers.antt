@@ -8,7 +8,7 @@ use Rattle.resolver_clause_store.specs.declared.queue.DecideQueue.{DecideQueue}
 use Rattle.resolver_clause_store.proofs.KeptLemmas.{keeps_all}
 use Rattle.resolver_clause_store.proofs.QueueLemmas.{queued-longer}
 use Rattle.resolvo.specs.ClauseSearches.{IsConsistent, IsSameProblem}
-use Rattle.resolvo.specs.Propagation.{Extends, IsJustified}
+use Rattle.resolvo.specs.Propagation.{ExtendsTrail, IsJustified}
 use Rattle.resolvo.specs.Propagators.{IsPropagator}
 use Rattle.resolvo.specs.WatchedClauses.{AreInLists}
 use Rattle.resolvo.specs.declared.clause_search.ClauseSearch.{ClauseSearch}
@@ -22,7 +22,7 @@ use Rattle.resolvo.proofs.clause_search.ClauseSearch.next_step.Goals as goal
 -- the trail goes on without a decision, and the queue may change
 extended : (it : ClauseSearch) (trail : Trail) (propagator : Propagator) (queue : DecideQueue)
     (in_lists : ∥ AreInLists it.table propagator.watches ∥₁) → IsConsistent it → variable_count trail ≡ variable_count it.trail →
-    IsJustified it.table trail → Extends it.trail trail → IsPropagator it.table trail propagator →
+    IsJustified it.table trail → ExtendsTrail it.trail trail → IsPropagator it.table trail propagator →
     IsQueued queue trail it.table it.requirements.items →
     IsConsistent (record it { trail = trail; propagator = propagator; queue = queue; in_lists = in_lists }) ×
     IsSameProblem it (record it { trail = trail; propagator = propagator; queue = queue; in_lists = in_lists })
@@ -34,7 +34,7 @@ extended it trail propagator queue in_lists holds size justified extends propaga
     )
 
 -- the queue stays right while the trail grows
-still_queued : (it : ClauseSearch) (trail : Trail) → Extends it.trail trail → IsConsistent it → IsQueued it.queue trail it.table it.requirements.items
+still_queued : (it : ClauseSearch) (trail : Trail) → ExtendsTrail it.trail trail → IsConsistent it → IsQueued it.queue trail it.table it.requirements.items
 still_queued it trail extends holds =
     queued-longer it.queue it.trail trail it.table it.requirements.items (keeps_all it.trail trail (record { kept = extends.kept })) holds.queued
 

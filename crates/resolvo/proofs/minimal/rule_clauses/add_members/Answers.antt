@@ -1,9 +1,9 @@
-use Rattle.resolvo.proofs.RuleClauseLemmas.{Adds-none, members_next}
+use Rattle.resolvo.proofs.RuleClauseLemmas.{AppendsLines-none, members_next}
 use Rattle.std.proofs.lemmas.List.{take_all}
 use Rattle.resolvo.proofs.minimal.rule_clauses.add_members.Goals as goal
 
 pub loop-member-init : goal.loop-member-init
-loop-member-init g c = Adds-none _ _
+loop-member-init g c = AppendsLines-none _ _
 
 pub loop-member-preserved : goal.loop-member-preserved
 loop-member-preserved g c = members_next _ _ _ _ _ _ c.args.rule c.args.list c.args.members.now c.loop-member.member-index c.member-item.result

@@ -1,6 +1,6 @@
 use Rattle.std.proofs.Common.{sym}
 use Rattle.std.proofs.lemmas.Slice.Zip.{AllZip-long}
-use Rattle.resolvo.proofs.RuleClauseLemmas.{Adds-zip}
+use Rattle.resolvo.proofs.RuleClauseLemmas.{AppendsLines-zip}
 use Rattle.resolvo.specs.RuleClauses.{all_lines}
 use Rattle.resolvo.proofs.minimal.rule_clauses.clauses_over.Goals as goal
 
@@ -17,7 +17,7 @@ returns g c =
       coded = are.coded;
       short = are.short;
       apart = are.apart;
-      lines = Adds-zip _ _ _ _ (all_lines c.in_ok-codes.codes.width 0 c.args.rules.now c.in_ok-codes.codes.codes.items) c.requires.blank
+      lines = AppendsLines-zip _ _ _ _ (all_lines c.in_ok-codes.codes.width 0 c.args.rules.now c.in_ok-codes.codes.codes.items) c.requires.blank
           (rw c.deref.ensures.value at c.in_ok-add_rules.ensures);
       distinct = c.variable_count-variables.ensures.distinct;
     }))

@@ -3,7 +3,7 @@ use Rattle.resolver_clause_store.specs.Universe.{Demands}
 use Rattle.resolver_encoding.specs.Reach.{AreNear}
 use Rattle.resolver_encoding.specs.SoFar.{IsReadSoFar}
 use Rattle.resolver_encoding.specs.Notes.{notes_in}
-use Rattle.resolvo.specs.Problems.{demands_in}
+use Rattle.resolvo.specs.Problems.{root_demands}
 use Rattle.resolvo.proofs.OutcomeLemmas.{same_demands}
 use Rattle.resolvo.proofs.RoundLemmas.{begun}
 use Rattle.resolvo.proofs.rounds.Rounds.begin.Goals as goal
@@ -11,7 +11,7 @@ use Rattle.resolvo.proofs.rounds.Rounds.begin.Goals as goal
 pub returns : goal.returns
 returns g c =
     let u = g.D.Interner.universe c.args.provider.now in
-    let root = demands_in c.args.problem.now in
+    let root = root_demands c.args.problem.now in
     let notes = notes_in c.read_root.new.self in
     let same = same_demands root c.root_requirements.result.now c.root_constraints.result.now c.root_requirements.ensures c.root_constraints.ensures in
     let Read : List g.row.S.Denot → Type 0 = λ chosen. IsReadSoFar u root chosen notes in

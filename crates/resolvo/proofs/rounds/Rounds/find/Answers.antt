@@ -4,7 +4,7 @@ use Rattle.resolver_clause_store.specs.Outcomes.{IsCore}
 use Rattle.resolver_clause_store.specs.declared.SoftRequirement.{SoftRequirement}
 use Rattle.resolver_clause_store.specs.declared.SoftRequirement.TheVariants.{Solvable}
 use Rattle.resolvo.specs.ClauseSearches.{IsRefused, base_of, trail_of}
-use Rattle.resolvo.specs.Problems.{demands_in}
+use Rattle.resolvo.specs.Problems.{root_demands}
 use Rattle.resolvo.specs.RoundStates.{IsAnswering, IsBetween, IsFound, notes_of}
 use Rattle.resolvo.proofs.SoftLemmas.{between_begun, between_held, rest_held}
 use Rattle.resolvo.proofs.RoundLemmas.{room_trans}
@@ -24,7 +24,7 @@ returns-in_ok-soft_turns-in-Answer g c =
     record {
       is_true = c.soft_turns.ensures.is_true;
       done = let u = g.D.Interner.universe c.args.provider.now in
-          let root = demands_in c.args.problem.now in
+          let root = root_demands c.args.problem.now in
           let rest = c.all_rounds.new.self in
           let found : IsFound u rest c.in_ok-all_rounds.field-0 = c.in_ok-all_rounds.ensures.found in
           let answering : IsAnswering u rest = rw c.in-Answer.is at found in
@@ -45,7 +45,7 @@ returns-in-Contradiction g c =
     record {
       is_true = c.all_rounds.ensures.is_true;
       done = let u = g.D.Interner.universe c.args.provider.now in
-          let root = demands_in c.args.problem.now in
+          let root = root_demands c.args.problem.now in
           let rest = c.all_rounds.new.self in
           let found : IsFound u rest c.in_ok-all_rounds.field-0 = c.in_ok-all_rounds.ensures.found in
           let core : IsCore (notes_of rest).table c.in-Contradiction.core.items = rw c.in-Contradiction.is at found in

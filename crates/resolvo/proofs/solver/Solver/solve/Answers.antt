@@ -2,9 +2,9 @@ use Rattle.std.proofs.Common.{List, refl, subst, sym, ◌≡◌, ◌++◌}
 use Rattle.std.specs.Prelude.{Ok, Option, map, IfSome}
 use Rattle.resolver_clause_store.specs.declared.SoftRequirement.TheVariants.{Solvable}
 use Rattle.resolvo.specs.Answers.{AnswersFound, IsAnswerTo}
-use Rattle.resolvo.specs.Problems.{AreItems, demands_in, list_in}
+use Rattle.resolvo.specs.Problems.{AreItems, list_in, root_demands}
 use Rattle.resolvo.specs.Refusals.{IsRefusal, RefusesFound}
-use Rattle.resolvo.specs.RoundStates.{IsDone, IsFresh, IsStuck, IsSomeDone, KeepsRoom}
+use Rattle.resolvo.specs.RoundStates.{IsDone, IsFresh, IsStuck, IsSomeDone, KeepsRoundLimits}
 use Rattle.resolvo.specs.declared.rounds.Rounds.{Rounds}
 use Rattle.resolvo.specs.Solvers.{IsAtLimit, exempt_in}
 use Rattle.resolvo.specs.declared.rounds.Found.TheVariants.{Answer}
@@ -47,7 +47,7 @@ pub outcome-answer-requires-clause-done : goal.outcome-answer-requires-clause-do
 outcome-answer-requires-clause-done g c =
     let u = g.D.Interner.universe c.args.self.now.provider in
     let rounds = c.find-found.new.self in
-    let root = demands_in c.args.problem in
+    let root = root_demands c.args.problem in
     let list = list_in c.args.problem in
     let w = soft_given (λ xs. AreItems g.S.Iterator.next_gives c.take-soft.result xs) (λ f. f ≡ Answer) (λ xs f.
     IsDone u root (map Solvable xs ++ list) rounds f) c.find-found.result c.find-found.ensures.done in
@@ -74,7 +74,7 @@ returns-clause-answer g c =
     let u = g.D.Interner.universe c.args.self.now.provider in
     let rounds = c.find-found.new.self in
     let new = c.outcome-answer.new.self in
-    let root = demands_in c.args.problem in
+    let root = root_demands c.args.problem in
     let list = list_in c.args.problem in
     let Gives : Option g.row.S.Denot → List g.row.D-SolvableId.Denot → Type 0 = λ o xs. AreItems g.S.Iterator.next_gives o xs in
     let w = soft_given (Gives c.take-soft.result) (λ f. f ≡ Answer) (λ xs f. IsDone u root (map Solvable xs ++ list) rounds f) c.find-found.result
@@ -96,14 +96,14 @@ returns-clause-refusal g c =
     let may_cancel = g.D.DependencyProvider.may_cancel c.args.self.now.provider in
     let rounds = c.find-found.new.self in
     let new = c.outcome-answer.new.self in
-    let root = demands_in c.args.problem in
+    let root = root_demands c.args.problem in
     let list = list_in c.args.problem in
     let Gives : Option g.row.S.Denot → List g.row.D-SolvableId.Denot → Type 0 = λ o xs. AreItems g.S.Iterator.next_gives o xs in
     let w = soft_given (Gives c.take-soft.result) (λ f. f ≡ Answer) (λ xs f. IsDone u root (map Solvable xs ++ list) rounds f) c.find-found.result
     c.find-found.ensures.done in
     let made = c.new-rounds.ensures in
     let limits = c.outcome-answer.ensures.keeps.limits in
-    let Room : Rounds g.row.D-NameId.Denot g.row.D-SolvableId.Denot → Type 0 = λ r. KeepsRoom r rounds in
+    let Room : Rounds g.row.D-NameId.Denot g.row.D-SolvableId.Denot → Type 0 = λ r. KeepsRoundLimits r rounds in
     let room : Room c.new-rounds.result = subst Room c.replace.ensures.after c.find-found.ensures.limits in
     IfErr-weaker c.outcome-answer.result (λ e. RefusesFound u may_cancel rounds c.find-found.result e)
     (λ e. IsRefusal u may_cancel root (IsAtLimit new) e)

@@ -1,6 +1,6 @@
 use Rattle.std.proofs.Common.{List, ap, ◌∙◌}
 use Rattle.std.specs.Prelude.{slice_index_or, slice_set}
-use Rattle.resolve.specs.Listings.{Package, no_versions, with_candidate}
+use Rattle.resolve.specs.Listings.{ListedPackage, no_versions, with_candidate}
 use Rattle.resolve.proofs.ListingLemmas.{inside, listed}
 use Rattle.resolve.proofs.catalog.packages.Packages.list.Goals as goal
 
@@ -10,4 +10,4 @@ returns-clause-added c =
     rw c.in_ok-listing.ensures.added
     (listed _ _ c.self.inside.listings.items c.args.place c.index-listing.result.now _ c.args.solvable c.self.invariant c.index-listing.ensures within
     c.in_ok-listing.ensures.list ∙
-    ap (λ (all : List Package). slice_set all c.args.place (with_candidate (slice_index_or all c.args.place no_versions) c.args.solvable)) c.self.view_is)
+    ap (λ (all : List ListedPackage). slice_set all c.args.place (with_candidate (slice_index_or all c.args.place no_versions) c.args.solvable)) c.self.view_is)

@@ -1,6 +1,6 @@
 use Rattle.std.proofs.Common.{◌≡◌, ◌<◌, ℕ, ap, get_or, set, length, refl, arith, sym, true, ◌∙◌, ◌++◌, ◌∷◌, []}
 use Rattle.std.proofs.lemmas.Option.{slice_get-get_or}
-use Rattle.resolve.specs.Listings.{Package, no_versions, with_candidate}
+use Rattle.resolve.specs.Listings.{ListedPackage, no_versions, with_candidate}
 use Rattle.resolve.proofs.VersionTableLemmas.{version_fresh, version_found}
 use Rattle.resolve.proofs.PackageLemmas.{ArePackagesOf-set, ArePackagesOf-kept, ArePackagesOf-tried, IsPackageOf-declared}
 use Rattle.resolve.proofs.PackageLemmas.{IsKept-inserted, few_more, new_last}
@@ -35,7 +35,7 @@ returns-clause-declared c =
     new_last _ _ _ _ (sym c.contains.ensures ∙ c.if-contains.false) c.in_ok-insert.ensures.keys in
     let at : c.in_ok-id_of.field-0 ≡ length c.args.self.now.versions.keys = omega (arith, c.in_ok-id_of.ensures.id, c.len-2.ensures.len) in
     let within : c.args.name.0 < length c.args.self.now.packages = omega arith in
-    let row : Package = get_or c.args.self.now.packages c.args.name.0 no_versions in
+    let row : ListedPackage = get_or c.args.self.now.packages c.args.name.0 no_versions in
     record {
       fresh = version_fresh _ _ _ c.contains.ensures c.if-contains.false;
       within = within;
