@@ -252,11 +252,6 @@ pub record IsReadStep {N S : Type 0} (u : Universe N S) (Defers : Deferred S →
   pub defers : (e : Deferred S) → IsLeft new e → IsLeft old e ⊎ Defers e
   pub keeps : (root : Demands) → Premise root → IsEncoding u root old → IsEncoding u root new
 
--- the limits of variables and clauses stay
-pub record KeepsLimits {N S : Type 0} (old new : Notes N S) : Type 0 where
-  pub variables : new.variable_limit ≡ old.variable_limit
-  pub clauses : new.clause_limit ≡ old.clause_limit
-
 -- the number of variables, no two of them alike, or the number of clauses is at its limit
 abbrev pub IsFull : {N S : Type 0} → Notes N S → Type 0
 IsFull notes = ((length notes.origins ≡ notes.variable_limit) × AreDistinct notes.origins) ⊎ (length notes.kinds ≡ notes.clause_limit)

@@ -1,7 +1,10 @@
 -- The view of a clause table and that of an encoding.
 use Rattle.std.specs.Prelude.{◌≡◌, map}
 use Rattle.std.specs.Option.{option_map}
+use Rattle.resolver_clause_store.specs.Caches.{IsTrueCache}
+use Rattle.resolver_clause_store.specs.Universe.{Universe}
 use Rattle.resolver_clause_store.specs.Variables.{limit_in, origins_in}
+use Rattle.resolver_clause_store.specs.declared.Cache.{Cache}
 use Rattle.resolver_clause_store.specs.declared.RequirementClause.{RequirementClause}
 use Rattle.resolver_clause_store.specs.declared.UnionEnds.{UnionEnds}
 use Rattle.resolver_encoding.specs.Encodings.{Notes}
@@ -48,7 +51,18 @@ notes_in e = record {
 abbrev pub union_ends_in : {N S : Type 0} → Encoding N S → UnionEnds
 union_ends_in e = e.table.union_ends
 
--- both limits stay
+-- the provider's answers
+abbrev pub cache_in : {N S : Type 0} → Encoding N S → Cache N S
+cache_in e = e.cache
+
+-- both limits stay, and so does the cache
 pub record KeepsRoom {N S : Type 0} (old new : Encoding N S) : Type 0 where
   pub variables : (notes_in new).variable_limit ≡ (notes_in old).variable_limit
   pub clauses : (notes_in new).clause_limit ≡ (notes_in old).clause_limit
+  pub cache : cache_in new ≡ cache_in old
+
+-- both limits stay, and the cached answers stay true
+pub record KeepsTrue {N S : Type 0} (u : Universe N S) (old new : Encoding N S) : Type 0 where
+  pub variables : (notes_in new).variable_limit ≡ (notes_in old).variable_limit
+  pub clauses : (notes_in new).clause_limit ≡ (notes_in old).clause_limit
+  pub answers : IsTrueCache u (cache_in old) → IsTrueCache u (cache_in new)

@@ -21,7 +21,7 @@ use Rattle.resolver_encoding.specs.Encodings.{IsReadStep, IsStepWhile, IsTrueUnd
 use Rattle.resolver_encoding.specs.Groups.{AreGroups, IsAt}
 use Rattle.resolver_encoding.specs.Reach.{AreNear}
 use Rattle.resolver_encoding.specs.ReadState.{Deferred}
-use Rattle.resolver_encoding.specs.SoFar.{HasMet, IsQuietAt, IsQuietUnder, IsReadSoFar}
+use Rattle.resolver_encoding.specs.SoFar.{IsQuietUnder, IsReadSoFar}
 
 -- the demands with these requirements and constraints
 abbrev pub demands_with : List ConditionalRequirement → List VersionSetId → Demands
@@ -96,10 +96,6 @@ module _ {N S : Type 0} (u : Universe N S) where
 
     abbrev pub IsSolvableStep : S → Notes N S → Notes N S → Type 0
     IsSolvableStep s old new = IsReadStep u (IsUnmet u set (BySolvable s)) (IsDemanded u set (demands_of (u.needs s))) (λ root. ⊤) old new
-
-    -- whether the disjunct with this number is due
-    abbrev pub IsDueIf : Notes N S → ℕ → Bool → Type 0
-    IsDueIf notes number due = MatchBool due (HasMet u set notes number) (IsQuietAt u set notes number)
 
     -- no disjunct is due that is noted under the package of this solvable, or of the solvables from this place on
     abbrev pub IsQuietFor : S → Notes N S → Notes N S → Type 0

@@ -1,12 +1,17 @@
 //! The clauses of everything that was read.
 
-ghost use Rattle.std.specs.Prelude.{◌≡◌, ◌<◌, ◌≤◌, ◌^◌, [], All, IfErr, OnOk, length, map};
+ghost use Rattle.std.specs.Prelude.{◌≡◌, ◌<◌, ◌≤◌, ◌^◌, [], All, IfErr, IfOk, OnOk, length, map};
+ghost use Rattle.resolver_clause_store.specs.Caches.{IsTrueCache};
+ghost use Rattle.resolver_clause_store.specs.Interruptions.{IsInterruption};
 ghost use Rattle.resolver_clause_store.specs.Laws.{IsIdentity};
 ghost use Rattle.resolver_clause_store.specs.Universe.{Universe};
 ghost use Rattle.resolver_clause_store.specs.Variables.{origins_in};
 ghost use Rattle.resolver_encoding.specs.Atoms.{wanted};
+ghost use Rattle.resolver_encoding.specs.Core.{implied_in};
 ghost use Rattle.resolver_encoding.specs.Encodings.{AddsKind, IsFull, IsUnread};
 ghost use Rattle.resolver_encoding.specs.Refusals.{IsShortage};
+ghost use Rattle.resolver_encoding.specs.Truth.{AreListed, AreStated};
+ghost use Rattle.resolver_encoding.specs.Values.{kinds_at};
 
 mod candidates;
 mod constraints;
@@ -21,12 +26,13 @@ mod turns;
 
 use crate::choices::Choices;
 use crate::disjuncts::Entry;
+use crate::explain::rules_of_clauses;
 use crate::groups::Groups;
 use crate::table::ClauseTable;
 use indexmap::IndexSet;
 use resolver_clause_store::{
-    ClauseKind, Clauses, Exhausted, Requirement, RequirementClause, UnionEnds, Variables,
-    VersionSetId,
+    Cache, ClauseKind, Clauses, DependencyProvider, Exhausted, Interrupted, Requirement,
+    RequirementClause, Rule, UnionEnds, Variables, VersionSetId,
 };
 use std::alloc::Global;
 use std::hash::Hash;
@@ -35,6 +41,8 @@ use std::hash::Hash;
 #[derive(Drop)]
 pub struct Encoding<N: Copy + Eq + Hash + Drop, S: Copy + Eq + Hash + Drop> {
     alloc: Global,
+    /// The provider's answers.
+    pub cache: Cache<N, S>,
     table: ClauseTable<N, S>,
     seen: IndexSet<S>,
     groups: Groups<N, S>,
@@ -49,18 +57,26 @@ pub struct Encoding<N: Copy + Eq + Hash + Drop, S: Copy + Eq + Hash + Drop> {
 }
 
 impl<N: Copy + Eq + Hash + Drop, S: Copy + Eq + Hash + Drop> Encoding<N, S> {
-    ghost use Rattle.resolver_encoding.specs.Notes.{KeepsRoom, notes_in, union_ends_in};
+    ghost use Rattle.resolver_encoding.specs.Notes.{KeepsRoom, KeepsTrue, cache_in, notes_in, union_ends_in};
 
-    /// Returns an encoding that has read nothing, with limits on the numbers of its variables and clauses.
-    pub fn new(alloc: Global, variable_limit: usize, clause_limit: usize) -> Self
+    /// Returns an encoding that has read nothing, with limits on the numbers of its variables and clauses. It adds a
+    /// provider's answers to the cache.
+    pub fn new(
+        alloc: Global,
+        cache: Cache<N, S>,
+        variable_limit: usize,
+        clause_limit: usize,
+    ) -> Self
         requires { variable_limit ≤ 2 ^ 31 }
         ensures nothing_read { IsUnread (notes_in result) }
         ensures none_exempt { (notes_in result).exempt ≡ [] }
         ensures variables { (notes_in result).variable_limit ≡ variable_limit }
         ensures clauses { (notes_in result).clause_limit ≡ clause_limit }
+        ensures cache { cache_in result ≡ cache }
     {
         Encoding {
             alloc,
+            cache,
             table: ClauseTable::new(alloc, variable_limit, clause_limit),
             seen: IndexSet::new(alloc),
             groups: Groups::new(alloc),
@@ -73,6 +89,13 @@ impl<N: Copy + Eq + Hash + Drop, S: Copy + Eq + Hash + Drop> Encoding<N, S> {
             deferred_by_name: Groups::new(alloc),
             exempt: IndexSet::new(alloc),
         }
+    }
+
+    /// Gives up the encoding for its cache.
+    pub fn into_cache(self) -> Cache<N, S>
+        ensures { result ≡ cache_in self }
+    {
+        self.cache
     }
 
     /// Adds a clause with the candidates that it lists. Its literals follow from its kind and the candidates.
@@ -137,6 +160,26 @@ impl<N: Copy + Eq + Hash + Drop, S: Copy + Eq + Hash + Drop> Encoding<N, S> {
         ensures { result.now ≡ union_ends_in self.now }
     {
         self.table.union_ends()
+    }
+
+    /// Returns the rules that the clauses with these numbers state, in the order of the numbers.
+    pub fn stated_rules<D: DependencyProvider<NameId = N, SolvableId = S>>(
+        &mut self,
+        provider: &D,
+        numbers: &[usize],
+    ) -> Result<Vec<Rule<N, S>>, Interrupted<D::Cancel>>
+        requires is_true { IsTrueCache (D.universe provider.now) (cache_in self.old) }
+        requires within { All (λ n. n < length (notes_in self.old).kinds) numbers.now }
+        ensures limits { KeepsTrue (D.universe provider.now) self.old self.new }
+        ensures same { notes_in self.new ≡ notes_in self.old }
+        ensures listed { let core = kinds_at (notes_in self.old).kinds numbers.now in
+            IfOk result (λ rules. AreListed (D.universe provider.now) (implied_in (D.universe provider.now) N.eq core) core rules.items) }
+        ensures stated { let core = kinds_at (notes_in self.old).kinds numbers.now in
+            IfOk result (λ rules. AreStated (D.universe provider.now) (implied_in (D.universe provider.now) N.eq core) core rules.items) }
+        ensures refusal { IfErr result (IsInterruption (D.may_cancel provider.now)) }
+    {
+        let kinds = self.table.kinds();
+        rules_of_clauses(self.alloc, provider, &mut self.cache, kinds, numbers)
     }
 
     /// Returns the number of clauses.

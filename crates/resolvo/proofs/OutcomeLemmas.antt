@@ -8,11 +8,13 @@ use Rattle.resolver_clause_store.specs.declared.VersionSetId.{VersionSetId}
 use Rattle.resolver_clause_store.specs.Lists.{HasNoRepeats}
 use Rattle.resolver_clause_store.specs.SoftRun.{SoftRun}
 use Rattle.resolver_clause_store.specs.Variables.{AreDistinct}
+use Rattle.resolver_encoding.specs.Encodings.{Notes}
 use Rattle.resolvo.specs.Answers.{IsSoftAnswer}
 use Rattle.resolvo.specs.ClauseSearches.{clause_count_of, learnt_count_of}
 use Rattle.resolvo.specs.RoundStates.{IsBetween, IsStuck, KeepsRoundLimits, chosen_of, notes_of, search_of}
 use Rattle.resolvo.specs.Refusals.{IsRefusal}
 use Rattle.resolvo.specs.Solvers.{IsAtLimit, KeepsSolverLimits, rounds_in}
+use Rattle.resolvo.specs.declared.clause_search.ClauseSearch.{ClauseSearch}
 use Rattle.resolvo.specs.declared.rounds.Rounds.{Rounds}
 use Rattle.resolvo.specs.declared.solver.Solver.{Solver}
 use Rattle.resolvo.specs.declared.solver.UnsolvableOrCancelled.{UnsolvableOrCancelled}
@@ -25,23 +27,25 @@ pub same_demands : (d : Demands) (rs : List ConditionalRequirement) (vs : List V
 same_demands d rs vs r v = λ i. record { requirements = r i; constraints = v i }
 
 -- a count of the rounds at its limit is a count of the solver at its limit
-pub at_limit : {D C N S : Type 0} (made found : Rounds N S) (old new : Solver D C N S) → KeepsRoundLimits made found →
+pub at_limit : {D C N S : Type 0} (u : Universe N S) (made found : Rounds N S) (old new : Solver D C N S) → KeepsRoundLimits u made found →
     (notes_of made).variable_limit ≡ old.variable_limit → (notes_of made).clause_limit ≡ old.clause_limit → made.clause_limit ≡ old.clause_limit →
-    made.learnt_limit ≡ old.learnt_limit → KeepsSolverLimits old new → rounds_in new ≡ found → IsStuck found → IsAtLimit new
-at_limit {D} {C} {N} {S} made found old new room variables kinds clauses learnt limits same stuck =
-    let At : Rounds N S → Type 0 = λ r. ((length (notes_of r).origins ≡ new.variable_limit) × AreDistinct (notes_of r).origins)
-    ⊎ ((length (notes_of r).kinds ≡ new.clause_limit)
-    ⊎ ((new.clause_limit ≤ clause_count_of (search_of r)) ⊎ (new.learnt_limit ≤ learnt_count_of (search_of r)))) in
-    subst At (sym same) (⊎_elim
+    made.learnt_limit ≡ old.learnt_limit → KeepsSolverLimits old new → notes_of (rounds_in new) ≡ notes_of found → search_of (rounds_in new) ≡ search_of found →
+    IsStuck found → IsAtLimit new
+at_limit {D} {C} {N} {S} u made found old new room variables kinds clauses learnt limits noted same stuck =
+    let At : Notes N S → ClauseSearch → Type 0 = λ n s. ((length n.origins ≡ new.variable_limit) × AreDistinct n.origins)
+    ⊎ ((length n.kinds ≡ new.clause_limit)
+    ⊎ ((new.clause_limit ≤ clause_count_of s) ⊎ (new.learnt_limit ≤ learnt_count_of s))) in
+    let AtNotes : Notes N S → Type 0 = λ n. At n (search_of (rounds_in new)) in
+    subst AtNotes (sym noted) (subst (At (notes_of found)) (sym same) (⊎_elim
     (λ full. ⊎_elim
-    (λ all. inl (all.0 ∙ room.notes.variables ∙ variables ∙ sym limits.variables, all.1))
-    (λ most. inr (inl (most ∙ room.notes.clauses ∙ kinds ∙ sym limits.clauses)))
+    (λ all. inl (all.0 ∙ room.variables ∙ variables ∙ sym limits.variables, all.1))
+    (λ most. inr (inl (most ∙ room.kinds ∙ kinds ∙ sym limits.clauses)))
     full)
     (λ searched. ⊎_elim
     (λ many. inr (inr (inl (omega (arith, many, room.clauses, clauses, limits.clauses)))))
     (λ much. inr (inr (inr (omega (arith, much, room.learnt, learnt, limits.learnt)))))
     searched)
-    stuck)
+    stuck))
 
 -- a refusal with a weaker meaning of the limits
 pub refusal_weaker : {D N S C : Type 0} (u : Universe N S) (may_cancel : C → Type 0) (root : Demands) (at other : Type 0) → (at → other) →

@@ -7,6 +7,7 @@ use Rattle.std.proofs.Math.Seq.{take-append_seam}
 use Rattle.std.proofs.lemmas.Bool.{cases_lt}
 use Rattle.std.proofs.lemmas.Option.{slice_get-get_or, slice_get_within}
 use Rattle.std.proofs.lemmas.List.Elements.{All-weaker, Contains-get_or}
+use Rattle.resolver_clause_store.specs.Caches.{IsTrueCache}
 use Rattle.resolver_clause_store.specs.Candidates.{matching}
 use Rattle.resolver_clause_store.specs.Formula.{AreBelow}
 use Rattle.resolver_clause_store.specs.Lists.{IsWithin, Meets}
@@ -14,6 +15,7 @@ use Rattle.resolver_clause_store.specs.TrailView.{KeepsPlaces, length_of, variab
 use Rattle.resolver_clause_store.specs.Universe.{Universe, Demands}
 use Rattle.resolver_clause_store.specs.Variables.{Keeps}
 use Rattle.resolver_clause_store.specs.Literals.{Literal}
+use Rattle.resolver_clause_store.specs.declared.Cache.{Cache}
 use Rattle.resolver_clause_store.specs.declared.Origin.{Origin}
 use Rattle.resolver_clause_store.specs.declared.Origin.TheVariants.{Root, Solvable}
 use Rattle.resolver_clause_store.specs.declared.RequirementClause.{RequirementClause}
@@ -24,7 +26,7 @@ use Rattle.resolver_clause_store.proofs.PlaceLemmas.{Keeps-same}
 use Rattle.resolver_clause_store.proofs.SlotLemmas.{slot-within}
 use Rattle.resolver_encoding.specs.Atoms.{Atom, atom}
 use Rattle.resolver_encoding.specs.Encodings.{Extends, Notes}
-use Rattle.resolver_encoding.specs.Notes.{notes_in}
+use Rattle.resolver_encoding.specs.Notes.{KeepsTrue, cache_in, notes_in}
 use Rattle.resolver_encoding.specs.SoFar.{IsReading, IsReadMore, IsReadSoFar, left_count}
 use Rattle.resolver_encoding.specs.Trails.{Follows, chosen_in, origin_at, solvables_before}
 use Rattle.resolver_encoding.specs.declared.chosen.Chosen.{Chosen}
@@ -37,7 +39,7 @@ use Rattle.resolvo.specs.ClauseSearches.{IsConsistent, IsLoaded, KeepsLoaded, Ke
 use Rattle.resolvo.specs.ClauseSearches.{trail_of}
 use Rattle.resolvo.specs.declared.owners.Owners.{Owners}
 use Rattle.resolvo.specs.RoundStates.{AreRounds, HasFollowed, HasLoaded, HasBookmark, IsFollowingFrom, IsFresh, IsSearchOf, IsStill, IsUpToDate, KeepsRead}
-use Rattle.resolvo.specs.RoundStates.{IsRound, KeepsRoundLimits, chosen_of, notes_of}
+use Rattle.resolvo.specs.RoundStates.{AreAtRest, IsRound, KeepsRoundLimits, chosen_of, notes_of}
 use Rattle.resolvo.specs.declared.rounds.Round.{Round}
 use Rattle.resolvo.specs.declared.rounds.Round.TheVariants.{Last, Fired, Read}
 use Rattle.resolvo.specs.declared.clause_search.ClauseSearch.{ClauseSearch}
@@ -112,14 +114,14 @@ loaded_all table clauses numbers requirements old mid l are are_numbers loads =
 module _ {N S : Type 0} where
   -- the root was read
   pub begun : (u : Universe N S) (root : Demands) (old : Rounds N S) (encoding : Encoding N S) → IsFresh old →
-      IsReadSoFar u root [] (notes_in encoding) →
-      AreRounds u (record old { encoding = encoding })
-  begun u root old encoding fresh read =
+      IsTrueCache u (cache_in encoding) → IsReadSoFar u root [] (notes_in encoding) → AreRounds u (record old { encoding = encoding })
+  begun u root old encoding fresh answers read =
       let base : Trail = trail_of old.search in
       let empty : length_of base ≡ 0 = empty_trail base fresh.variables in
       let ReadFor : List S → Type 0 = λ set. IsReadSoFar u root set (notes_in encoding) in
       let FollowsTo : ℕ → Type 0 = λ n. Follows old.chosen (notes_in encoding).origins base n in
       record {
+        answers = answers;
         reading = record { root = root; so_far = subst ReadFor (sym fresh.none) read };
         consistent = fresh.consistent;
         loaded = record {
@@ -160,11 +162,28 @@ module _ {N S : Type 0} where
   pub still_owned : (r : Rounds N S) (owners : Owners N) → IsStill r → IsStill (record r { owners = owners })
   still_owned r owners still = assumption
 
+  -- the rounds with a cache that knows more
+  abbrev pub knowing : Rounds N S → Cache N S → Rounds N S
+  knowing r cache = record r { encoding = record r.encoding { cache = cache } }
+
+  pub room_known : (u : Universe N S) (r : Rounds N S) (cache : Cache N S) → IsTrueCache u cache → KeepsRoundLimits u r (knowing r cache)
+  room_known u r cache answers =
+      record { variables = refl; kinds = refl; answers = λ _. answers; clauses = refl; learnt = refl }
+
+  pub rest_known : (u : Universe N S) (r : Rounds N S) (cache : Cache N S) → IsTrueCache u cache → AreAtRest u r → AreAtRest u (knowing r cache)
+  rest_known u r cache answers rest =
+      let it = rest.rounds in
+      record {
+        rounds = record { answers = answers; reading = it.reading; consistent = it.consistent; loaded = it.loaded; variables = it.variables; bookmark = it.bookmark };
+        still = record { held = rest.still.held; bookmarked = rest.still.bookmarked; chosen = rest.still.chosen };
+      }
+
   -- the search has run over all clauses that were read
   pub searched : (u : Universe N S) (old : Rounds N S) (new : ClauseSearch) → AreRounds u old → IsConsistent new →
       IsLoaded (notes_of old).table (notes_of old).requirements new → variable_count (trail_of new) ≡ length (notes_of old).origins →
       KeepsBookmark old.search new → AreRounds u (record old { search = new })
   searched u old new rounds consistent loaded size kept = record {
+    answers = rounds.answers;
     reading = rounds.reading;
     consistent = consistent;
     loaded = record {
@@ -271,13 +290,14 @@ module _ {N S : Type 0} where
   pub read_more : (u : Universe N S) (old mid : Rounds N S) (from : ℕ) (keys : List S) (encoding : Encoding N S) → AreRounds u old →
       IsFollowingFrom old mid from → keys ≡ chosen_of mid → IsReadMore u keys (notes_of mid) (notes_in encoding) →
       ((root : Demands) → IsReadSoFar u root (take from keys) (notes_of mid) → IsReadSoFar u root keys (notes_in encoding)) →
-      AreRounds u (record mid { encoding = encoding })
-  read_more u old mid from keys encoding rounds following is more reads =
+      IsTrueCache u (cache_in encoding) → AreRounds u (record mid { encoding = encoding })
+  read_more u old mid from keys encoding rounds following is more reads answers =
       let ReadFor : List S → Type 0 = λ set. IsReadSoFar u rounds.reading.root set (notes_in encoding) in
       let longer : length (notes_of mid).origins ≤ length (notes_in encoding).origins =
       Keeps-longer (notes_of mid).origins (notes_in encoding).origins Root more.growth.origins in
       let bookmark : HasBookmark mid = following.bookmark in
       record {
+        answers = answers;
         reading = record {
           root = rounds.reading.root;
           so_far = subst ReadFor is (reads rounds.reading.root (read_first u rounds.reading.root old mid from keys following is rounds.reading.so_far));
@@ -328,13 +348,20 @@ module _ {N S : Type 0} where
       subst FiredFrom same is
   round_later u old mid new Read same is = (omega (arith, is.0, ap (λ (notes : Notes N S). length notes.read) same), is.1)
 
-  -- the limits stay
-  pub room_trans : (one two three : Rounds N S) → KeepsRoundLimits one two → KeepsRoundLimits two three → KeepsRoundLimits one three
+  -- the limits stay, and the cached answers stay true
+  pub room_trans : {u : Universe N S} (one two three : Rounds N S) → KeepsRoundLimits u one two → KeepsRoundLimits u two three → KeepsRoundLimits u one three
   room_trans one two three first second = record {
-    notes = record { variables = second.notes.variables ∙ first.notes.variables; clauses = second.notes.clauses ∙ first.notes.clauses };
+    variables = second.variables ∙ first.variables;
+    kinds = second.kinds ∙ first.kinds;
+    answers = λ known. second.answers (first.answers known);
     clauses = second.clauses ∙ first.clauses;
     learnt = second.learnt ∙ first.learnt;
   }
 
-  pub room_same : (r : Rounds N S) → KeepsRoundLimits r r
-  room_same r = record { notes = record { variables = refl; clauses = refl }; clauses = refl; learnt = refl }
+  pub room_same : {u : Universe N S} (r : Rounds N S) → KeepsRoundLimits u r r
+  room_same r = record { variables = refl; kinds = refl; answers = λ known. known; clauses = refl; learnt = refl }
+
+  pub room_of : {u : Universe N S} (old new : Rounds N S) → KeepsTrue u old.encoding new.encoding → new.clause_limit ≡ old.clause_limit →
+      new.learnt_limit ≡ old.learnt_limit → KeepsRoundLimits u old new
+  room_of old new kept clauses learnt =
+      record { variables = kept.variables; kinds = kept.clauses; answers = kept.answers; clauses = clauses; learnt = learnt }

@@ -8,6 +8,7 @@ use Rattle.std.proofs.Math.Seq.{take-append_seam}
 use Rattle.std.proofs.lemmas.Bool.{cases_Bool, cases_eq, cases_lt, false≢true}
 use Rattle.std.proofs.lemmas.Option.{same_Some, none-some, get_or_from_slice_get}
 use Rattle.std.proofs.lemmas.List.Elements.{Contains-append_left, Contains-push_cases}
+use Rattle.resolver_clause_store.specs.Caches.{IsTrueCache}
 use Rattle.resolver_clause_store.specs.Laws.{IsIdentity}
 use Rattle.resolver_clause_store.specs.Lists.{HasNoRepeats, IsWithin}
 use Rattle.resolver_clause_store.specs.Near.{IsNamed, IsNear}
@@ -31,7 +32,7 @@ use Rattle.resolver_clause_store.proofs.TrailLemmas.{gains-cases, keeps-gains}
 use Rattle.resolver_encoding.specs.Atoms.{Atom, atom}
 use Rattle.resolver_encoding.specs.Encodings.{Extends, Notes}
 use Rattle.resolver_encoding.specs.LeftOut.{IsLeftOut}
-use Rattle.resolver_encoding.specs.Notes.{notes_in}
+use Rattle.resolver_encoding.specs.Notes.{cache_in, notes_in}
 use Rattle.resolver_encoding.specs.Reach.{AreNear}
 use Rattle.resolver_encoding.specs.ReadState.{AreSeeds}
 use Rattle.resolver_encoding.specs.SoFar.{IsReadSoFar}
@@ -161,13 +162,14 @@ module _ {N S : Type 0} where
 
   -- the rounds are right after clauses were added
   pub rounds_added : (u : Universe N S) (old : Rounds N S) (encoding : Encoding N S) → AreRounds u old →
-      IsAddition u (notes_of old) (notes_in encoding) → AreRounds u (record old { encoding = encoding })
-  rounds_added u old encoding rounds adds =
+      IsTrueCache u (cache_in encoding) → IsAddition u (notes_of old) (notes_in encoding) → AreRounds u (record old { encoding = encoding })
+  rounds_added u old encoding rounds answers adds =
       let longer : length (notes_of old).origins ≤ length (notes_in encoding).origins =
       Keeps-longer (notes_of old).origins (notes_in encoding).origins Root adds.origins in
       let Requiring : List ℕ → Type 0 = λ list. Extends rounds.loaded.numbers list in
       let bookmark : HasBookmark old = rounds.bookmark in
       record {
+        answers = answers;
         reading = record { root = rounds.reading.root; so_far = adds.keeps rounds.reading.root (chosen_of old) rounds.reading.so_far };
         consistent = rounds.consistent;
         loaded = record {
@@ -355,7 +357,9 @@ module _ {N S : Type 0} where
   rounds_followed u before old new from rounds same following within =
       let encoding : before.encoding ≡ new.encoding = sym (following.encoding ∙ same) in
       let Read : Encoding N S → Type 0 = λ e. IsReadSoFar u rounds.reading.root (chosen_of new) (notes_in e) in
+      let Known : Encoding N S → Type 0 = λ e. IsTrueCache u (cache_in e) in
       record {
+        answers = subst Known encoding rounds.answers;
         reading = record {
           root = rounds.reading.root;
           so_far = subst Read encoding (so_far_less u rounds.reading.root (chosen_of new) (chosen_of before)
@@ -790,13 +794,14 @@ module _ {N S : Type 0} where
       notes_in encoding ≡ record (notes_of old) { exempt = (notes_in encoding).exempt } →
       ((d : Demands) (set : List S) → IsReadSoFar u d set (notes_of old) → IsReadSoFar u d set (notes_in encoding)) → IsConsistent search →
       KeepsLoaded old.search search → variable_count (trail_of search) ≡ variable_count (trail_of old.search) → KeepsBookmark old.search search →
-      AreRounds u (record old { encoding = encoding; search = search })
-  rounds_assumed u old encoding search v rounds only stays consistent loads size bookmark =
+      IsTrueCache u (cache_in encoding) → AreRounds u (record old { encoding = encoding; search = search })
+  rounds_assumed u old encoding search v rounds only stays consistent loads size bookmark answers =
       let origins : (notes_of old).origins ≡ (notes_in encoding).origins = sym (ap (λ (n : Notes N S). n.origins) only) in
       let Follow : List (Origin N S) → Type 0 = λ os. Follows old.chosen os rounds.bookmark.base (length_of rounds.bookmark.base) in
       let Table : List (List Literal) → Type 0 = λ table. Extends rounds.loaded.given table in
       let Requiring : List ℕ → Type 0 = λ list. Extends rounds.loaded.numbers list in
       record {
+        answers = answers;
         reading = record { root = rounds.reading.root; so_far = stays rounds.reading.root (chosen_of old) rounds.reading.so_far };
         consistent = consistent;
         loaded = record {

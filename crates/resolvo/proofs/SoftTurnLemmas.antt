@@ -15,6 +15,7 @@ use Rattle.resolver_clause_store.specs.SoftRun.{Exempts, FitsNowhere, IsAsked, S
 use Rattle.resolver_clause_store.specs.SoftRun.{refused}
 use Rattle.resolver_clause_store.specs.Universe.{Universe, Demands}
 use Rattle.resolver_clause_store.specs.Valid.{IsValid}
+use Rattle.resolver_clause_store.specs.declared.Cache.{Cache}
 use Rattle.resolver_clause_store.specs.declared.SoftRequirement.{SoftRequirement}
 use Rattle.resolver_clause_store.specs.declared.SoftRequirement.TheVariants.{Matching, Solvable}
 use Rattle.resolver_clause_store.specs.declared.VersionSetId.{VersionSetId}
@@ -23,6 +24,7 @@ use Rattle.resolvo.specs.RoundStates.{HasTurned, HaveTurned, IsBetween, IsOneTak
 use Rattle.resolvo.specs.RoundStates.{notes_of, one_fits, was_chosen}
 use Rattle.resolvo.specs.declared.rounds.Rounds.{Rounds}
 use Rattle.resolver_clause_store.proofs.ListLemmas.{Contains-cons_cases as cons_cases, Contains-here as here, Contains-none as none_in, Contains-there as there}
+use Rattle.resolvo.proofs.RoundLemmas.{knowing}
 use Rattle.resolvo.proofs.SoftLemmas.{asked_for}
 
 -- the element is all of the list
@@ -103,6 +105,17 @@ module _ {N S : Type 0} (u : Universe N S) where
         standing_wider taken left (flat_map (options u) done) (flat_map (options u) (done ++ r ∷ [])) (flat_map (own_packages u) done)
         (flat_map (own_packages u) (done ++ r ∷ [])) rounds
         (gathered_before (options u) done r) (gathered_before (own_packages u) done r) b
+
+    -- the cache may know more
+    pub standing_known : (taken refused seeds : List S) (packages : List N) (r : Rounds N S) (cache : Cache N S) →
+        IsStanding u root taken refused seeds packages r → IsStanding u root taken refused seeds packages (knowing r cache)
+    standing_known taken left seeds packages r cache b = assumption
+
+    pub between_known : (done : List (SoftRequirement S)) (r : Rounds N S) (cache : Cache N S) → IsBetween u root done r →
+        IsBetween u root done (knowing r cache)
+    between_known done r cache b =
+        let standing = standing_known b.taken b.refused (flat_map (options u) done) (flat_map (own_packages u) done) r cache b.standing in
+        record { first = b.first; promise = b.promise; taken = b.taken; refused = b.refused; run = b.run; standing = standing }
 
     -- the turn of a solvable
     run_turned : (first : List S) (done : List (SoftRequirement S)) (taken chosen exempt : List S) (asked : List N) (s : S)

@@ -1,6 +1,7 @@
 -- Rounds of searching and reading.
 use Rattle.std.specs.Prelude.{◌≡◌, ℕ, ◌+◌, ◌-◌, ◌<◌, ◌≤◌, ◌⊎◌, Bool, Some, true, false, List, [], ◌∷◌, ◌++◌, Contains, None, length, map, take}
 use Rattle.std.specs.List.{flat_map}
+use Rattle.resolver_clause_store.specs.Caches.{IsTrueCache}
 use Rattle.resolver_clause_store.specs.FirstChoice.{TakesFirstChoices}
 use Rattle.resolver_clause_store.specs.Outcomes.{IsCore}
 use Rattle.resolver_clause_store.specs.Formula.{Satisfies}
@@ -15,13 +16,14 @@ use Rattle.resolver_clause_store.specs.Variables.{Keeps}
 use Rattle.resolver_clause_store.specs.TrailView.{Gains, IsCut, KeepsPlaces, length_of, level_of, slot_of, variable_at, variable_count}
 use Rattle.resolver_clause_store.specs.Universe.{Universe, Demands}
 use Rattle.resolver_clause_store.specs.Literals.{Literal}
+use Rattle.resolver_clause_store.specs.declared.Cache.{Cache}
 use Rattle.resolver_clause_store.specs.declared.Origin.{Origin}
 use Rattle.resolver_clause_store.specs.declared.Reason.TheVariants.{Assumed}
 use Rattle.resolver_clause_store.specs.declared.Slot.{Slot}
 use Rattle.resolver_clause_store.specs.declared.Trail.{Trail}
-use Rattle.resolver_encoding.specs.Encodings.{Extends, IsFull, IsUnread, KeepsLimits, Notes}
+use Rattle.resolver_encoding.specs.Encodings.{Extends, IsFull, IsUnread, Notes}
 use Rattle.resolver_encoding.specs.LeftOut.{IsLeftOut}
-use Rattle.resolver_encoding.specs.Notes.{notes_in}
+use Rattle.resolver_encoding.specs.Notes.{cache_in, notes_in}
 use Rattle.resolver_encoding.specs.SoFar.{IsReading, IsReadSoFar, left_count}
 use Rattle.resolver_encoding.specs.Reach.{AreNear}
 use Rattle.resolver_encoding.specs.ReadState.{AreSeeds}
@@ -95,9 +97,15 @@ module _ {N S : Type 0} where
   abbrev pub learnt_limit_of : Rounds N S → ℕ
   learnt_limit_of r = r.learnt_limit
 
-  -- the limits are the same
-  pub record KeepsRoundLimits (old new : Rounds N S) : Type 0 where
-    pub notes : KeepsLimits (notes_of old) (notes_of new)
+  -- the provider's answers
+  abbrev pub cache_of : Rounds N S → Cache N S
+  cache_of r = cache_in r.encoding
+
+  -- the limits are the same, and the cached answers stay true
+  pub record KeepsRoundLimits (u : Universe N S) (old new : Rounds N S) : Type 0 where
+    pub variables : (notes_of new).variable_limit ≡ (notes_of old).variable_limit
+    pub kinds : (notes_of new).clause_limit ≡ (notes_of old).clause_limit
+    pub answers : IsTrueCache u (cache_of old) → IsTrueCache u (cache_of new)
     pub clauses : new.clause_limit ≡ old.clause_limit
     pub learnt : new.learnt_limit ≡ old.learnt_limit
 
@@ -118,6 +126,7 @@ module _ {N S : Type 0} where
 
   -- the invariant of the rounds
   pub record AreRounds (u : Universe N S) (r : Rounds N S) : Type 0 where
+    pub answers : IsTrueCache u (cache_of r)
     pub reading : IsReading u (chosen_of r) (notes_of r)
     pub consistent : IsConsistent r.search
     pub loaded : HasLoaded (notes_of r).table (notes_of r).requirements r.search

@@ -5,7 +5,7 @@ use Rattle.resolver_clause_store.specs.Caches.{IsTrueCache}
 use Rattle.resolver_clause_store.specs.Variables.{AreDistinct}
 use Rattle.resolver_encoding.specs.SoFar.{left_count}
 use Rattle.resolvo.specs.ClauseSearches.{learnt_count_of}
-use Rattle.resolvo.specs.RoundStates.{notes_of}
+use Rattle.resolvo.specs.RoundStates.{cache_of, notes_of, search_of}
 use Rattle.resolvo.specs.declared.rounds.Rounds.{Rounds}
 use Rattle.resolvo.specs.declared.solver.Solver.{Solver}
 
@@ -50,12 +50,13 @@ module _ {D C N S : Type 0} where
   abbrev pub KeepsActivity : Solver D C N S → Solver D C N S → Type 0
   KeepsActivity old new = new.activity ≡ old.activity
 
-  -- the provider, the limits, the parameters and the state of the last search are the same
+  -- the provider, the limits, the parameters and the state of the last search are the same, but the cache may know more
   pub record IsSameSolver (old new : Solver D C N S) : Type 0 where
     pub provider : provider_in new ≡ provider_in old
     pub limits : KeepsSolverLimits old new
     pub activity : KeepsActivity old new
-    pub rounds : rounds_in new ≡ rounds_in old
+    pub notes : notes_of (rounds_in new) ≡ notes_of (rounds_in old)
+    pub search : search_of (rounds_in new) ≡ search_of (rounds_in old)
 
   -- In the state of the last search there are as many variables as the limit, no two of them alike, or as many clauses,
   -- or as many learnt clauses, which are those without a place.
@@ -66,5 +67,5 @@ module _ {D C N S : Type 0} where
 
   -- the cached answers of the provider are true, and the number of each variable fits its type
   pub record IsSound (u : Universe N S) (s : Solver D C N S) : Type 0 where
-    pub true_answers : IsTrueCache u s.cache
+    pub true_answers : IsTrueCache u (cache_of s.rounds)
     pub fits : s.variable_limit ≤ 2 ^ 31

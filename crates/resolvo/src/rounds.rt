@@ -10,6 +10,7 @@ ghost use Rattle.resolver_clause_store.specs.declared.Origin.TheVariants.{Solvab
 ghost use Rattle.resolvo.specs.Problems.{AreItems, list_in, root_demands};
 ghost use Rattle.resolver_clause_store.specs.Caches.{IsTrueCache};
 ghost use Rattle.resolver_clause_store.specs.Laws.{IsIdentity};
+ghost use Rattle.resolver_clause_store.specs.Universe.{Universe};
 ghost use Rattle.resolver_clause_store.specs.Variables.{AreDistinct};
 ghost use Rattle.resolver_encoding.specs.Refusals.{IsStop};
 ghost use Rattle.resolver_encoding.specs.SoFar.{IsProgress, IsReadSoFar};
@@ -65,13 +66,14 @@ impl<N: Copy + Eq + Hash + Drop, S: Copy + Eq + Hash + Drop> Rounds<N, S> {
     ghost use Rattle.resolvo.specs.RoundStates.{AreAtRest, AreRounds, GoesOn, HasFollowed, HasBookmark, HasAssumed, IsAnswering, IsDoneBy};
     ghost use Rattle.resolvo.specs.RoundStates.{IsFollowingFrom, IsRefusing, IsFound, IsFresh, IsStill, IsRound, IsSearchOf, IsStuck, IsUnanswered, IsUpToDate};
     ghost use Rattle.resolvo.specs.RoundStates.{KeepsEncoding, KeepsRoundLimits, TakesTurn};
-    ghost use Rattle.resolvo.specs.RoundStates.{chosen_of, clause_limit_of, learnt_limit_of, notes_of, search_of};
+    ghost use Rattle.resolvo.specs.RoundStates.{cache_of, chosen_of, clause_limit_of, learnt_limit_of, notes_of, search_of};
 
     /// Returns rounds that have read nothing.
     ///
     /// The limits bound the variables, clauses and learnt clauses; the activity has the parameters of the scores.
     pub fn new(
         alloc: Global,
+        cache: Cache<N, S>,
         variable_limit: usize,
         clause_limit: usize,
         learnt_limit: usize,
@@ -83,11 +85,12 @@ impl<N: Copy + Eq + Hash + Drop, S: Copy + Eq + Hash + Drop> Rounds<N, S> {
         ensures clauses { (notes_of result).clause_limit ≡ clause_limit }
         ensures all_clauses { clause_limit_of result ≡ clause_limit }
         ensures learnt { learnt_limit_of result ≡ learnt_limit }
+        ensures cache { cache_of result ≡ cache }
         ensures none_learnt { learnt_count_of (search_of result) ≡ 0 }
     {
         Rounds {
             alloc,
-            encoding: Encoding::new(alloc, variable_limit, clause_limit),
+            encoding: Encoding::new(alloc, cache, variable_limit, clause_limit),
             search: ClauseSearch::new(alloc, activity),
             owners: Owners::new(alloc),
             chosen: Chosen::new::<N>(alloc),
@@ -109,26 +112,21 @@ impl<N: Copy + Eq + Hash + Drop, S: Copy + Eq + Hash + Drop> Rounds<N, S> {
     fn begin<D: DependencyProvider<NameId = N, SolvableId = S>, I: Drop>(
         &mut self,
         provider: &D,
-        cache: &mut Cache<N, S>,
         problem: &Problem<S, I>,
     ) -> Result<(), Interrupted<D::Cancel>>
         requires fresh { IsFresh self.old }
-        requires is_true { IsTrueCache (D.universe provider.now) cache.old }
-        ensures is_true { IsTrueCache (D.universe provider.now) cache.new }
+        requires is_true { IsTrueCache (D.universe provider.now) (cache_of self.old) }
         ensures rounds { OnOk result (AreRounds (D.universe provider.now) self.new) }
         ensures read { OnOk result (IsReadSoFar (D.universe provider.now) (root_demands problem.now) (chosen_of self.new) (notes_of self.new)) }
         ensures near { OnOk result (AreNear (D.universe provider.now) (root_demands problem.now) [] [] (notes_of self.new)) }
         ensures exempt { OnOk result ((notes_of self.new).exempt ≡ []) }
         ensures turn { OnOk result (IsRootTurn (search_of self.new)) }
-        ensures limits { KeepsRoundLimits self.old self.new }
+        ensures limits { KeepsRoundLimits (D.universe provider.now) self.old self.new }
         ensures refusal { IfErr result (IsStop (D.may_cancel provider.now) (IsStuck self.new)) }
     {
-        self.encoding.read_root(
-            provider,
-            cache,
-            problem.root_requirements(),
-            problem.root_constraints(),
-        )?;
+        let requirements = problem.root_requirements();
+        self.encoding
+            .read_root(provider, requirements, problem.root_constraints())?;
         Ok(())
     }
 
@@ -143,7 +141,7 @@ impl<N: Copy + Eq + Hash + Drop, S: Copy + Eq + Hash + Drop> Rounds<N, S> {
         ensures same { IsSearchOf self.old self.new }
         ensures turn { OnOk result (KeepsTurn (search_of self.old) (search_of self.new)) }
         ensures still { OnOk result (IsStill self.old → IsStill self.new) }
-        ensures limits { KeepsRoundLimits self.old self.new }
+        ensures limits { KeepsRoundLimits (D.universe provider.now) self.old self.new }
         ensures memory { IfErr result (λ e. e ≡ Exhausted.Memory) }
     {
         let known = self.encoding.variables();
@@ -170,7 +168,7 @@ impl<N: Copy + Eq + Hash + Drop, S: Copy + Eq + Hash + Drop> Rounds<N, S> {
         ensures same { IsSearchOf self.old self.new }
         ensures turn { OnOk result (KeepsTurn (search_of self.old) (search_of self.new)) }
         ensures outcome { IfOk result (OutcomeIs (notes_of self.new).table (notes_of self.new).requirements (search_of self.new)) }
-        ensures limits { KeepsRoundLimits self.old self.new }
+        ensures limits { KeepsRoundLimits (D.universe provider.now) self.old self.new }
         ensures refusal { IfErr result (IsStop (D.may_cancel provider.now) (IsStuck self.new)) }
     {
         self.load(provider)?;
@@ -191,7 +189,7 @@ impl<N: Copy + Eq + Hash + Drop, S: Copy + Eq + Hash + Drop> Rounds<N, S> {
         ensures following { IfOk result (IsFollowingFrom self.old self.new) }
         ensures followed { OnOk result (HasFollowed self.old self.new) }
         ensures same { KeepsEncoding self.old self.new }
-        ensures limits { KeepsRoundLimits self.old self.new }
+        ensures limits { (u : Universe N S) → KeepsRoundLimits u self.old self.new }
         ensures memory { IfErr result (λ e. e ≡ Exhausted.Memory) }
     {
         self.chosen.cut::<N>(self.search.kept());
@@ -206,24 +204,21 @@ impl<N: Copy + Eq + Hash + Drop, S: Copy + Eq + Hash + Drop> Rounds<N, S> {
     fn read<D: DependencyProvider<NameId = N, SolvableId = S>>(
         &mut self,
         provider: &D,
-        cache: &mut Cache<N, S>,
     ) -> Result<Progress, Interrupted<D::Cancel>>
         requires rounds { AreRounds (D.universe provider.now) self.old }
         requires loaded { IsUpToDate self.old }
-        requires is_true { IsTrueCache (D.universe provider.now) cache.old }
-        ensures is_true { IsTrueCache (D.universe provider.now) cache.new }
         ensures rounds { OnOk result (AreRounds (D.universe provider.now) self.new) }
         ensures keeps { OnOk result (GoesOn (D.universe provider.now) self.old self.new) }
         ensures followed { OnOk result (HasFollowed self.old self.new) }
         ensures progress { IfOk result (IsProgress (notes_of self.old) (notes_of self.new)) }
         ensures fit { OnOk result (length (notes_of self.new).read ≤ (notes_of self.new).variable_limit) }
-        ensures limits { KeepsRoundLimits self.old self.new }
+        ensures limits { KeepsRoundLimits (D.universe provider.now) self.old self.new }
         ensures refusal { IfErr result (IsStop (D.may_cancel provider.now) (IsStuck self.new)) }
     {
         let from = self.follow()?;
         let progress = self
             .encoding
-            .read_chosen(provider, cache, self.chosen.solvables(), from)?;
+            .read_chosen(provider, self.chosen.solvables(), from)?;
         Ok(progress)
     }
 
@@ -240,7 +235,7 @@ impl<N: Copy + Eq + Hash + Drop, S: Copy + Eq + Hash + Drop> Rounds<N, S> {
         ensures made { IfOk result (λ made. made ≡ true → HasDecided (search_of self.new)) }
         ensures none { IfOk result (λ made. made ≡ false →
             (length_of (trail_of self.old.search) ≤ length_of (trail_of self.new.search)) ⊎ IsStalled self.new.search) }
-        ensures limits { KeepsRoundLimits self.old self.new }
+        ensures limits { KeepsRoundLimits (D.universe provider.now) self.old self.new }
         ensures refusal { IfErr result (IsStop (D.may_cancel provider.now) (IsStuck self.new)) }
     {
         let before = self.search.trail().len();
@@ -258,20 +253,17 @@ impl<N: Copy + Eq + Hash + Drop, S: Copy + Eq + Hash + Drop> Rounds<N, S> {
     fn read_after_failure<D: DependencyProvider<NameId = N, SolvableId = S>>(
         &mut self,
         provider: &D,
-        cache: &mut Cache<N, S>,
     ) -> Result<Progress, Interrupted<D::Cancel>>
         requires rounds { AreRounds (D.universe provider.now) self.old }
-        requires is_true { IsTrueCache (D.universe provider.now) cache.old }
-        ensures is_true { IsTrueCache (D.universe provider.now) cache.new }
         ensures rounds { OnOk result (AreRounds (D.universe provider.now) self.new) }
         ensures keeps { OnOk result (GoesOn (D.universe provider.now) self.old self.new) }
         ensures progress { IfOk result (IsProgress (notes_of self.old) (notes_of self.new)) }
         ensures fit { IfOk result (λ progress. progress ≡ ReadProgress → length (notes_of self.new).read ≤ (notes_of self.new).variable_limit) }
-        ensures limits { KeepsRoundLimits self.old self.new }
+        ensures limits { KeepsRoundLimits (D.universe provider.now) self.old self.new }
         ensures refusal { IfErr result (IsStop (D.may_cancel provider.now) (IsStuck self.new)) }
     {
         if self.decide_after_failure(provider)? {
-            let progress = self.read(provider, cache)?;
+            let progress = self.read(provider)?;
             return Ok(progress);
         }
         Ok(Progress::Nothing)
@@ -281,21 +273,18 @@ impl<N: Copy + Eq + Hash + Drop, S: Copy + Eq + Hash + Drop> Rounds<N, S> {
     fn search_and_read<D: DependencyProvider<NameId = N, SolvableId = S>>(
         &mut self,
         provider: &D,
-        cache: &mut Cache<N, S>,
     ) -> Result<Round, Interrupted<D::Cancel>>
         requires rounds { AreRounds (D.universe provider.now) self.old }
-        requires is_true { IsTrueCache (D.universe provider.now) cache.old }
-        ensures is_true { IsTrueCache (D.universe provider.now) cache.new }
         ensures rounds { OnOk result (AreRounds (D.universe provider.now) self.new) }
         ensures keeps { OnOk result (GoesOn (D.universe provider.now) self.old self.new) }
         ensures round { IfOk result (IsRound (D.universe provider.now) self.old self.new) }
-        ensures limits { KeepsRoundLimits self.old self.new }
+        ensures limits { KeepsRoundLimits (D.universe provider.now) self.old self.new }
         ensures refusal { IfErr result (IsStop (D.may_cancel provider.now) (IsStuck self.new)) }
     {
         match self.search(provider)? {
             Outcome::Contradiction(core) => Ok(Round::Last(Found::Contradiction(core))),
             Outcome::Refused => Ok(Round::Last(Found::Refused)),
-            Outcome::Finished => match self.read(provider, cache)? {
+            Outcome::Finished => match self.read(provider)? {
                 Progress::Nothing => Ok(Round::Last(Found::Answer)),
                 Progress::Fired => Ok(Round::Fired),
                 Progress::Read => Ok(Round::Read),
@@ -307,20 +296,17 @@ impl<N: Copy + Eq + Hash + Drop, S: Copy + Eq + Hash + Drop> Rounds<N, S> {
     fn round<D: DependencyProvider<NameId = N, SolvableId = S>>(
         &mut self,
         provider: &D,
-        cache: &mut Cache<N, S>,
     ) -> Result<Round, Interrupted<D::Cancel>>
         requires rounds { AreRounds (D.universe provider.now) self.old }
-        requires is_true { IsTrueCache (D.universe provider.now) cache.old }
-        ensures is_true { IsTrueCache (D.universe provider.now) cache.new }
         ensures rounds { OnOk result (AreRounds (D.universe provider.now) self.new) }
         ensures keeps { OnOk result (GoesOn (D.universe provider.now) self.old self.new) }
         ensures round { IfOk result (IsRound (D.universe provider.now) self.old self.new) }
-        ensures limits { KeepsRoundLimits self.old self.new }
+        ensures limits { KeepsRoundLimits (D.universe provider.now) self.old self.new }
         ensures refusal { IfErr result (IsStop (D.may_cancel provider.now) (IsStuck self.new)) }
     {
-        match self.read_after_failure(provider, cache)? {
+        match self.read_after_failure(provider)? {
             Progress::Nothing => {
-                let round = self.search_and_read(provider, cache)?;
+                let round = self.search_and_read(provider)?;
                 Ok(round)
             }
             Progress::Fired => Ok(Round::Fired),
@@ -332,21 +318,18 @@ impl<N: Copy + Eq + Hash + Drop, S: Copy + Eq + Hash + Drop> Rounds<N, S> {
     fn rounds_until_read<D: DependencyProvider<NameId = N, SolvableId = S>>(
         &mut self,
         provider: &D,
-        cache: &mut Cache<N, S>,
     ) -> Result<Option<Found>, Interrupted<D::Cancel>>
         requires rounds { AreRounds (D.universe provider.now) self.old }
-        requires is_true { IsTrueCache (D.universe provider.now) cache.old }
-        ensures is_true { IsTrueCache (D.universe provider.now) cache.new }
         ensures rounds { OnOk result (AreRounds (D.universe provider.now) self.new) }
         ensures keeps { OnOk result (GoesOn (D.universe provider.now) self.old self.new) }
         ensures found { IfOk result (λ answer. IfSome answer (IsFound (D.universe provider.now) self.new)) }
         ensures read { IfOk result (λ answer. IfNone answer (length (notes_of self.old).read < length (notes_of self.new).read)) }
         ensures fit { IfOk result (λ answer. IfNone answer (length (notes_of self.new).read ≤ (notes_of self.new).variable_limit)) }
-        ensures limits { KeepsRoundLimits self.old self.new }
+        ensures limits { KeepsRoundLimits (D.universe provider.now) self.old self.new }
         ensures refusal { IfErr result (IsStop (D.may_cancel provider.now) (IsStuck self.new)) }
     {
         'rounds: loop {
-            match self.round(provider, cache)? {
+            match self.round(provider)? {
                 Round::Last(found) => return Ok(Some(found)),
                 Round::Read => return Ok(None),
                 Round::Fired => (),
@@ -358,19 +341,16 @@ impl<N: Copy + Eq + Hash + Drop, S: Copy + Eq + Hash + Drop> Rounds<N, S> {
     fn all_rounds<D: DependencyProvider<NameId = N, SolvableId = S>>(
         &mut self,
         provider: &D,
-        cache: &mut Cache<N, S>,
     ) -> Result<Found, Interrupted<D::Cancel>>
         requires rounds { AreRounds (D.universe provider.now) self.old }
-        requires is_true { IsTrueCache (D.universe provider.now) cache.old }
-        ensures is_true { IsTrueCache (D.universe provider.now) cache.new }
         ensures rounds { OnOk result (AreRounds (D.universe provider.now) self.new) }
         ensures keeps { OnOk result (GoesOn (D.universe provider.now) self.old self.new) }
         ensures found { IfOk result (IsFound (D.universe provider.now) self.new) }
-        ensures limits { KeepsRoundLimits self.old self.new }
+        ensures limits { KeepsRoundLimits (D.universe provider.now) self.old self.new }
         ensures refusal { IfErr result (IsStop (D.may_cancel provider.now) (IsStuck self.new)) }
     {
         'rounds: loop {
-            match self.rounds_until_read(provider, cache)? {
+            match self.rounds_until_read(provider)? {
                 Some(found) => return Ok(found),
                 None => (),
             }
@@ -382,21 +362,18 @@ impl<N: Copy + Eq + Hash + Drop, S: Copy + Eq + Hash + Drop> Rounds<N, S> {
     fn refuse<D: DependencyProvider<NameId = N, SolvableId = S>>(
         &mut self,
         provider: &D,
-        cache: &mut Cache<N, S>,
         variable: Variable,
         exempt: usize,
     ) -> Result<(), Interrupted<D::Cancel>>
         requires rounds { AreRounds (D.universe provider.now) self.old }
-        requires is_true { IsTrueCache (D.universe provider.now) cache.old }
         requires assumed { HasAssumed (search_of self.old) variable }
         requires one_turn { length (notes_of self.old).exempt ≤ exempt + 1 }
-        ensures is_true { IsTrueCache (D.universe provider.now) cache.new }
         ensures rest { OnOk result (AreAtRest (D.universe provider.now) self.new) }
         ensures refused { OnOk result (IsRefusing (D.universe provider.now) variable exempt self.old self.new) }
-        ensures limits { KeepsRoundLimits self.old self.new }
+        ensures limits { KeepsRoundLimits (D.universe provider.now) self.old self.new }
         ensures refusal { IfErr result (IsStop (D.may_cancel provider.now) (IsStuck self.new)) }
     {
-        self.encoding.end_turn(provider, cache, exempt)?;
+        self.encoding.end_turn(provider, exempt)?;
         self.load(provider)?;
         self.search.retract()?;
         self.search.assume(Literal::new(variable, false))?;
@@ -408,19 +385,16 @@ impl<N: Copy + Eq + Hash + Drop, S: Copy + Eq + Hash + Drop> Rounds<N, S> {
     fn is_answered<D: DependencyProvider<NameId = N, SolvableId = S>>(
         &mut self,
         provider: &D,
-        cache: &mut Cache<N, S>,
     ) -> Result<bool, Interrupted<D::Cancel>>
         requires rounds { AreRounds (D.universe provider.now) self.old }
-        requires is_true { IsTrueCache (D.universe provider.now) cache.old }
-        ensures is_true { IsTrueCache (D.universe provider.now) cache.new }
         ensures rounds { OnOk result (AreRounds (D.universe provider.now) self.new) }
         ensures keeps { OnOk result (GoesOn (D.universe provider.now) self.old self.new) }
         ensures answer { IfOk result (λ answered. answered ≡ true → IsAnswering (D.universe provider.now) self.new) }
         ensures unanswered { IfOk result (λ answered. answered ≡ false → IsUnanswered self.new) }
-        ensures limits { KeepsRoundLimits self.old self.new }
+        ensures limits { KeepsRoundLimits (D.universe provider.now) self.old self.new }
         ensures refusal { IfErr result (IsStop (D.may_cancel provider.now) (IsStuck self.new)) }
     {
-        match self.all_rounds(provider, cache)? {
+        match self.all_rounds(provider)? {
             Found::Answer => Ok(true),
             Found::Contradiction(_) => Ok(false),
             Found::Refused => Ok(false),
@@ -432,31 +406,28 @@ impl<N: Copy + Eq + Hash + Drop, S: Copy + Eq + Hash + Drop> Rounds<N, S> {
     fn attempt<D: DependencyProvider<NameId = N, SolvableId = S>>(
         &mut self,
         provider: &D,
-        cache: &mut Cache<N, S>,
         solvable: S,
         variable: Variable,
     ) -> Result<bool, Interrupted<D::Cancel>>
         requires rest { AreAtRest (D.universe provider.now) self.old }
         requires loaded { IsUpToDate self.old }
-        requires is_true { IsTrueCache (D.universe provider.now) cache.old }
         requires stands { slice_get (notes_of self.old).origins variable ≡ Some (SolvableOrigin solvable) }
         requires free { slot_of (trail_of (search_of self.old)) variable ≡ None }
-        ensures is_true { IsTrueCache (D.universe provider.now) cache.new }
         ensures rest { OnOk result (AreAtRest (D.universe provider.now) self.new) }
         ensures turned { IfOk result (λ chosen.
             Contains (notes_of self.old).seen solvable → TakesTurn (D.universe provider.now) solvable self.old self.new chosen) }
-        ensures limits { KeepsRoundLimits self.old self.new }
+        ensures limits { KeepsRoundLimits (D.universe provider.now) self.old self.new }
         ensures refusal { IfErr result (IsStop (D.may_cancel provider.now) (IsStuck self.new)) }
     {
         let exempt = self.encoding.exempt().len();
         self.encoding.begin_turn(provider, solvable)?;
         self.search.assume(Literal::new(variable, true))?;
-        let answered = self.is_answered(provider, cache)?;
+        let answered = self.is_answered(provider)?;
         if answered {
             self.search.hold();
             return Ok(true);
         }
-        self.refuse(provider, cache, variable, exempt)?;
+        self.refuse(provider, variable, exempt)?;
         Ok(false)
     }
 
@@ -464,15 +435,12 @@ impl<N: Copy + Eq + Hash + Drop, S: Copy + Eq + Hash + Drop> Rounds<N, S> {
     fn turn<D: DependencyProvider<NameId = N, SolvableId = S>>(
         &mut self,
         provider: &D,
-        cache: &mut Cache<N, S>,
         solvable: S,
     ) -> Result<bool, Interrupted<D::Cancel>>
         requires rest { AreAtRest (D.universe provider.now) self.old }
-        requires is_true { IsTrueCache (D.universe provider.now) cache.old }
-        ensures is_true { IsTrueCache (D.universe provider.now) cache.new }
         ensures rest { OnOk result (AreAtRest (D.universe provider.now) self.new) }
         ensures turned { IfOk result (TakesTurn (D.universe provider.now) solvable self.old self.new) }
-        ensures limits { KeepsRoundLimits self.old self.new }
+        ensures limits { KeepsRoundLimits (D.universe provider.now) self.old self.new }
         ensures refusal { IfErr result (IsStop (D.may_cancel provider.now) (IsStuck self.new)) }
     {
         let variable = self.encoding.register(provider, solvable)?;
@@ -480,7 +448,7 @@ impl<N: Copy + Eq + Hash + Drop, S: Copy + Eq + Hash + Drop> Rounds<N, S> {
         match self.search.trail().slot(variable) {
             Some(slot) => Ok(slot.value),
             None => {
-                let is_chosen = self.attempt(provider, cache, solvable, variable)?;
+                let is_chosen = self.attempt(provider, solvable, variable)?;
                 Ok(is_chosen)
             }
         }
@@ -491,26 +459,24 @@ impl<N: Copy + Eq + Hash + Drop, S: Copy + Eq + Hash + Drop> Rounds<N, S> {
     pub fn find<D: DependencyProvider<NameId = N, SolvableId = S>, I: Iterator<Item = S> + Drop>(
         &mut self,
         provider: &D,
-        cache: &mut Cache<N, S>,
         problem: &Problem<S, I>,
         soft: Option<I>,
     ) -> Result<Found, Interrupted<D::Cancel>>
         requires can_next { IfSome soft (λ it. I.can_next it) }
         requires ends { IfSome soft (λ it. IsFinite (I.remaining it)) }
         requires fresh { IsFresh self.old }
-        requires is_true { IsTrueCache (D.universe provider.now) cache.old }
-        ensures is_true { IsTrueCache (D.universe provider.now) cache.new }
+        requires is_true { IsTrueCache (D.universe provider.now) (cache_of self.old) }
         ensures done { IfOk result
             (IsDoneBy (D.universe provider.now) (root_demands problem.now) (AreItems I.next_gives soft) (list_in problem.now) self.new) }
         ensures table { OnOk result (length (notes_of self.new).table ≡ length (notes_of self.new).kinds) }
-        ensures limits { KeepsRoundLimits self.old self.new }
+        ensures limits { KeepsRoundLimits (D.universe provider.now) self.old self.new }
         ensures refusal { IfErr result (IsStop (D.may_cancel provider.now) (IsStuck self.new)) }
     {
-        self.begin(provider, cache, problem)?;
-        match self.all_rounds(provider, cache)? {
+        self.begin(provider, problem)?;
+        match self.all_rounds(provider)? {
             Found::Answer => {
                 self.search.hold();
-                self.soft_turns(provider, cache, soft, problem.listed_soft_requirements())?;
+                self.soft_turns(provider, soft, problem.listed_soft_requirements())?;
                 Ok(Found::Answer)
             }
             Found::Contradiction(core) => Ok(Found::Contradiction(core)),

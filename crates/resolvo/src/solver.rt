@@ -3,6 +3,7 @@
 ghost use Rattle.std.specs.Prelude.{[], All, IfErr, IfOk, IfSome, Ok, OnErr, OnOk, length, ◌<◌, ◌^◌, ◌≡◌};
 ghost use Rattle.resolver_clause_store.specs.Caches.{IsTrueCache};
 ghost use Rattle.resolver_clause_store.specs.Interruptions.{IsInterruption};
+ghost use Rattle.resolver_encoding.specs.Notes.{KeepsTrue, cache_in, notes_in};
 ghost use Rattle.resolver_encoding.specs.Refusals.{IsStop};
 ghost use Rattle.resolvo.specs.Answers.{AnswersFound, IsAnswerTo};
 ghost use Rattle.resolvo.specs.Conflicts.{rules_in};
@@ -21,9 +22,9 @@ use crate::conflict::Conflict;
 use crate::problem::Problem;
 use crate::rounds::{Found, Rounds};
 use resolver_clause_store::{
-    Activity, Cache, ClauseKind, DependencyProvider, Exhausted, Interner, Interrupted,
+    Activity, Cache, DependencyProvider, Exhausted, Interner, Interrupted,
 };
-use resolver_encoding::rules_of_clauses;
+use resolver_encoding::Encoding;
 use resolver_report::keep_reached;
 use std::alloc::Global;
 use std::mem::replace;
@@ -43,17 +44,18 @@ pub enum UnsolvableOrCancelled<D: DependencyProvider> {
 fn explain<D: DependencyProvider>(
     alloc: Global,
     provider: &D,
-    cache: &mut Cache<D::NameId, D::SolvableId>,
-    kinds: &[ClauseKind<D::NameId, D::SolvableId>],
+    encoding: &mut Encoding<D::NameId, D::SolvableId>,
     core: &[usize],
 ) -> Result<Conflict<D::NameId, D::SolvableId>, Interrupted<D::Cancel>>
-    requires is_true { IsTrueCache (D.universe provider.now) cache.old }
-    requires within { All (λ n. n < length kinds.now) core.now }
-    ensures is_true { IsTrueCache (D.universe provider.now) cache.new }
-    ensures explained { IfOk result (λ conflict. ExplainsCore (D.universe provider.now) kinds.now core.now (rules_in conflict)) }
+    requires is_true { IsTrueCache (D.universe provider.now) (cache_in encoding.old) }
+    requires within { All (λ n. n < length (notes_in encoding.old).kinds) core.now }
+    ensures limits { KeepsTrue (D.universe provider.now) encoding.old encoding.new }
+    ensures same { notes_in encoding.new ≡ notes_in encoding.old }
+    ensures explained { IfOk result
+        (λ conflict. ExplainsCore (D.universe provider.now) (notes_in encoding.old).kinds core.now (rules_in conflict)) }
     ensures refusal { IfErr result (IsInterruption (D.may_cancel provider.now)) }
 {
-    let stated = rules_of_clauses(alloc, provider, cache, kinds, core)?;
+    let stated = encoding.stated_rules(provider, core)?;
     let rules = keep_reached(alloc, stated)?;
     let whole = Conflict { rules };
     let conflict = whole.trimmed()?;
@@ -68,7 +70,6 @@ fn explain<D: DependencyProvider>(
 pub struct Solver<D: DependencyProvider> {
     alloc: Global,
     provider: D,
-    cache: Cache<D::NameId, D::SolvableId>,
     rounds: Rounds<D::NameId, D::SolvableId>,
     exempt: Vec<D::SolvableId>,
     variable_limit: usize,
@@ -92,8 +93,14 @@ impl<D: DependencyProvider> Solver<D> {
         Solver {
             alloc,
             provider,
-            cache: Cache::new(alloc),
-            rounds: Rounds::new(alloc, 1 << 31, 1 << 31, 1 << 31, Activity::standard()),
+            rounds: Rounds::new(
+                alloc,
+                Cache::new(alloc),
+                1 << 31,
+                1 << 31,
+                1 << 31,
+                Activity::standard(),
+            ),
             exempt: Vec::new(alloc),
             variable_limit: 1 << 31,
             clause_limit: 1 << 31,
@@ -160,8 +167,8 @@ impl<D: DependencyProvider> Solver<D> {
         ensures refusal { RefusesCore
             (D.universe (provider_in self.old)) (D.may_cancel (provider_in self.old)) (notes_of (rounds_in self.old)) core.now result }
     {
-        let kinds = self.rounds.encoding.kinds();
-        match explain(self.alloc, &self.provider, &mut self.cache, kinds, core) {
+        let encoding = &mut self.rounds.encoding;
+        match explain(self.alloc, &self.provider, encoding, core) {
             Err(Interrupted::Cancelled(value)) => UnsolvableOrCancelled::Cancelled(value),
             Err(Interrupted::Exhausted(e)) => UnsolvableOrCancelled::Exhausted(e),
             Ok(conflict) => UnsolvableOrCancelled::Unsolvable(conflict),
@@ -245,8 +252,11 @@ impl<D: DependencyProvider> Solver<D> {
             (IsRefusal (D.universe (provider_in self.old)) (D.may_cancel (provider_in self.old)) (root_demands problem) (IsAtLimit self.new)) }
     {
         self.exempt = Vec::new(self.alloc);
+        let empty = Cache::new(self.alloc);
+        let unread = Encoding::new(self.alloc, empty, self.variable_limit, self.clause_limit);
         let rounds = Rounds::new(
             self.alloc,
+            replace(&mut self.rounds.encoding, unread).into_cache(),
             self.variable_limit,
             self.clause_limit,
             self.learnt_limit,
@@ -254,9 +264,7 @@ impl<D: DependencyProvider> Solver<D> {
         );
         drop(replace(&mut self.rounds, rounds));
         let soft = problem.soft_requirements.take();
-        let found = self
-            .rounds
-            .find(&self.provider, &mut self.cache, &problem, soft);
+        let found = self.rounds.find(&self.provider, &problem, soft);
         let answer = self.outcome(found);
         answer
     }

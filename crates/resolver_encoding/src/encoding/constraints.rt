@@ -13,8 +13,8 @@ ghost use Rattle.resolver_encoding.specs.Steps.{IsConstraintStep};
 
 use super::Encoding;
 use resolver_clause_store::{
-    By, Cache, ClauseKind, DependencyProvider, Exhausted, Interner, Interrupted, VersionSetId,
-    append, is_among,
+    By, ClauseKind, DependencyProvider, Exhausted, Interner, Interrupted, VersionSetId, append,
+    is_among,
 };
 use std::hash::Hash;
 
@@ -51,7 +51,7 @@ fn own_parent<D: DependencyProvider>(
 }
 
 impl<N: Copy + Eq + Hash + Drop, S: Copy + Eq + Hash + Drop> Encoding<N, S> {
-    ghost use Rattle.resolver_encoding.specs.Notes.{KeepsRoom, notes_in};
+    ghost use Rattle.resolver_encoding.specs.Notes.{KeepsRoom, KeepsTrue, cache_in, notes_in};
 
     /// Forbids a candidate together with the requirer of the constraint. If these are the same solvable, it is
     /// forbidden alone.
@@ -217,27 +217,25 @@ impl<N: Copy + Eq + Hash + Drop, S: Copy + Eq + Hash + Drop> Encoding<N, S> {
     pub(super) fn read_constraint<D: DependencyProvider<NameId = N, SolvableId = S>>(
         &mut self,
         provider: &D,
-        cache: &mut Cache<N, S>,
         by: By<S>,
         version_set: VersionSetId,
     ) -> Result<(), Interrupted<D::Cancel>>
-        requires is_true { IsTrueCache (D.universe provider.now) cache.old }
+        requires is_true { IsTrueCache (D.universe provider.now) (cache_in self.old) }
         requires encoding { IsEncodingOf (D.universe provider.now) (HasConstraint (D.universe provider.now) by version_set) (notes_in self.old) }
-        ensures room { KeepsRoom self.old self.new }
-        ensures is_true { IsTrueCache (D.universe provider.now) cache.new }
+        ensures room { KeepsTrue (D.universe provider.now) self.old self.new }
         ensures step { OnOk result (IsConstraintStep (D.universe provider.now) by version_set (notes_in self.old) (notes_in self.new)) }
         ensures read { OnOk result (IsConstraintRead (D.universe provider.now) (notes_in self.new).kinds by version_set) }
         ensures asked { OnOk result (Contains (notes_in self.new).asked ((D.universe provider.now).version_set_name version_set)) }
         ensures refusal { IfErr result (IsStop (D.may_cancel provider.now) (IsFull (notes_in self.new))) }
     {
-        self.ask(provider, cache, provider.version_set_name(version_set))?;
-        cache.fetch_non_matching(provider, version_set)?;
-        let forbidden = cache.non_matching(version_set);
+        self.ask(provider, provider.version_set_name(version_set))?;
+        self.cache.fetch_non_matching(provider, version_set)?;
+        let forbidden = Vec::from_slice(self.alloc, self.cache.non_matching(version_set))?;
         if forbidden.len() < CONSTRAINT_HELPER_THRESHOLD {
-            self.constrain_each(provider, by, version_set, forbidden)?;
+            self.constrain_each(provider, by, version_set, &forbidden)?;
             return Ok(());
         }
-        self.constrain_by_helper(provider, by, version_set, forbidden)?;
+        self.constrain_by_helper(provider, by, version_set, &forbidden)?;
         Ok(())
     }
 }

@@ -7,18 +7,16 @@ ghost use Rattle.resolver_encoding.specs.ReadState.{Deferred};
 ghost use Rattle.resolver_encoding.specs.SoFar.{IsDeferral, IsIndexing, IsTakenOut, left_count, HasFired, HasMet, IsFiring, IsQuietAt};
 ghost use Rattle.resolver_clause_store.specs.Caches.{IsTrueCache};
 ghost use Rattle.resolver_encoding.specs.Refusals.{IsStop};
-ghost use Rattle.resolver_encoding.specs.Steps.{IsDueIf, IsQuietFor, IsQuietFrom};
+ghost use Rattle.resolver_encoding.specs.Steps.{IsQuietFor, IsQuietFrom};
 
 use super::Encoding;
 use crate::disjuncts::{Entry, is_met};
 use indexmap::IndexSet;
-use resolver_clause_store::{
-    Cache, DependencyProvider, Exhausted, Interner, Interrupted, VersionSetId,
-};
+use resolver_clause_store::{DependencyProvider, Exhausted, Interner, Interrupted, VersionSetId};
 use std::hash::Hash;
 
 impl<N: Copy + Eq + Hash + Drop, S: Copy + Eq + Hash + Drop> Encoding<N, S> {
-    ghost use Rattle.resolver_encoding.specs.Notes.{KeepsRoom, entry_of, notes_in};
+    ghost use Rattle.resolver_encoding.specs.Notes.{KeepsRoom, KeepsTrue, cache_in, entry_of, notes_in};
 
     /// Notes the number of a deferred disjunct under the packages of its version sets.
     fn index_each<D: DependencyProvider<NameId = N, SolvableId = S>>(
@@ -87,44 +85,19 @@ impl<N: Copy + Eq + Hash + Drop, S: Copy + Eq + Hash + Drop> Encoding<N, S> {
 }
 
 impl<N: Copy + Eq + Hash + Drop, S: Copy + Eq + Hash + Drop> Encoding<N, S> {
-    ghost use Rattle.resolver_encoding.specs.Notes.{KeepsRoom, notes_in};
-
-    /// Returns whether a disjunct is due: deferred, and met in the chosen set.
-    fn is_due<D: DependencyProvider<NameId = N, SolvableId = S>>(
-        &self,
-        provider: &D,
-        cache: &mut Cache<N, S>,
-        chosen: &IndexSet<S>,
-        number: usize,
-    ) -> Result<bool, Interrupted<D::Cancel>>
-        requires is_true { IsTrueCache (D.universe provider.now) cache.old }
-        ensures is_true { IsTrueCache (D.universe provider.now) cache.new }
-        ensures due { IfOk result (IsDueIf (D.universe provider.now) chosen.now.keys (notes_in self.now) number) }
-        ensures refusal { IfErr result (IsStop (D.may_cancel provider.now) (IsFull (notes_in self.now))) }
-    {
-        match self.deferred.get(number) {
-            Some(Some(entry)) => {
-                let met = is_met(provider, cache, chosen, &entry.disjunct)?;
-                Ok(met)
-            }
-            Some(None) => Ok(false),
-            None => Ok(false),
-        }
-    }
+    ghost use Rattle.resolver_encoding.specs.Notes.{KeepsRoom, KeepsTrue, cache_in, notes_in};
 
     /// Fires a disjunct that is due: removes it, and encodes its requirement.
     fn fire<D: DependencyProvider<NameId = N, SolvableId = S>>(
         &mut self,
         provider: &D,
-        cache: &mut Cache<N, S>,
         chosen: &IndexSet<S>,
         number: usize,
     ) -> Result<(), Interrupted<D::Cancel>>
-        requires is_true { IsTrueCache (D.universe provider.now) cache.old }
+        requires is_true { IsTrueCache (D.universe provider.now) (cache_in self.old) }
         requires encoding { IsEncodingOf (D.universe provider.now) (λ root. ⊤) (notes_in self.old) }
         requires met { HasMet (D.universe provider.now) chosen.now.keys (notes_in self.old) number }
-        ensures room { KeepsRoom self.old self.new }
-        ensures is_true { IsTrueCache (D.universe provider.now) cache.new }
+        ensures room { KeepsTrue (D.universe provider.now) self.old self.new }
         ensures firing { OnOk result (IsFiring (D.universe provider.now) chosen.now.keys (notes_in self.old) (notes_in self.new)) }
         ensures quiet { OnOk result (IsQuietAt (D.universe provider.now) chosen.now.keys (notes_in self.new) number) }
         ensures fired { OnOk result (HasFired (notes_in self.old) (notes_in self.new) true) }
@@ -132,49 +105,51 @@ impl<N: Copy + Eq + Hash + Drop, S: Copy + Eq + Hash + Drop> Encoding<N, S> {
     {
         match self.take_out(number) {
             Some(entry) => {
-                self.encode_disjunct(provider, cache, entry)?;
+                self.encode_disjunct(provider, entry)?;
                 Ok(())
             }
             None => Ok(()),
         }
     }
 
-    /// Fires a disjunct if it is due. Returns whether it was.
+    /// Fires a disjunct if it is due: deferred, and met in the chosen set. Returns whether it was.
     fn fire_if_due<D: DependencyProvider<NameId = N, SolvableId = S>>(
         &mut self,
         provider: &D,
-        cache: &mut Cache<N, S>,
         chosen: &IndexSet<S>,
         number: usize,
     ) -> Result<bool, Interrupted<D::Cancel>>
-        requires is_true { IsTrueCache (D.universe provider.now) cache.old }
+        requires is_true { IsTrueCache (D.universe provider.now) (cache_in self.old) }
         requires encoding { IsEncodingOf (D.universe provider.now) (λ root. ⊤) (notes_in self.old) }
-        ensures room { KeepsRoom self.old self.new }
-        ensures is_true { IsTrueCache (D.universe provider.now) cache.new }
+        ensures room { KeepsTrue (D.universe provider.now) self.old self.new }
         ensures firing { OnOk result (IsFiring (D.universe provider.now) chosen.now.keys (notes_in self.old) (notes_in self.new)) }
         ensures quiet { OnOk result (IsQuietAt (D.universe provider.now) chosen.now.keys (notes_in self.new) number) }
         ensures fired { IfOk result (HasFired (notes_in self.old) (notes_in self.new)) }
         ensures refusal { IfErr result (IsStop (D.may_cancel provider.now) (IsFull (notes_in self.new))) }
     {
-        if !self.is_due(provider, cache, chosen, number)? {
-            return Ok(false);
+        match self.deferred.get(number) {
+            Some(Some(entry)) => {
+                if !is_met(provider, &mut self.cache, chosen, &entry.disjunct)? {
+                    return Ok(false);
+                }
+                self.fire(provider, chosen, number)?;
+                Ok(true)
+            }
+            Some(None) => Ok(false),
+            None => Ok(false),
         }
-        self.fire(provider, cache, chosen, number)?;
-        Ok(true)
     }
 
     /// Fires each of these disjuncts that is due. Returns whether any disjunct was due.
     fn fire_each<D: DependencyProvider<NameId = N, SolvableId = S>>(
         &mut self,
         provider: &D,
-        cache: &mut Cache<N, S>,
         chosen: &IndexSet<S>,
         numbers: &[usize],
     ) -> Result<bool, Interrupted<D::Cancel>>
-        requires is_true { IsTrueCache (D.universe provider.now) cache.old }
+        requires is_true { IsTrueCache (D.universe provider.now) (cache_in self.old) }
         requires encoding { IsEncodingOf (D.universe provider.now) (λ root. ⊤) (notes_in self.old) }
-        ensures room { KeepsRoom self.old self.new }
-        ensures is_true { IsTrueCache (D.universe provider.now) cache.new }
+        ensures room { KeepsTrue (D.universe provider.now) self.old self.new }
         ensures firing { OnOk result (IsFiring (D.universe provider.now) chosen.now.keys (notes_in self.old) (notes_in self.new)) }
         ensures quiet { OnOk result (All (IsQuietAt (D.universe provider.now) chosen.now.keys (notes_in self.new)) numbers.now) }
         ensures fired { IfOk result (HasFired (notes_in self.old) (notes_in self.new)) }
@@ -182,7 +157,7 @@ impl<N: Copy + Eq + Hash + Drop, S: Copy + Eq + Hash + Drop> Encoding<N, S> {
     {
         let mut any = false;
         for number in numbers {
-            any |= self.fire_if_due(provider, cache, chosen, *number)?;
+            any |= self.fire_if_due(provider, chosen, *number)?;
         }
         Ok(any)
     }
@@ -191,14 +166,12 @@ impl<N: Copy + Eq + Hash + Drop, S: Copy + Eq + Hash + Drop> Encoding<N, S> {
     fn fire_named<D: DependencyProvider<NameId = N, SolvableId = S>>(
         &mut self,
         provider: &D,
-        cache: &mut Cache<N, S>,
         chosen: &IndexSet<S>,
         solvable: S,
     ) -> Result<bool, Interrupted<D::Cancel>>
-        requires is_true { IsTrueCache (D.universe provider.now) cache.old }
+        requires is_true { IsTrueCache (D.universe provider.now) (cache_in self.old) }
         requires encoding { IsEncodingOf (D.universe provider.now) (λ root. ⊤) (notes_in self.old) }
-        ensures room { KeepsRoom self.old self.new }
-        ensures is_true { IsTrueCache (D.universe provider.now) cache.new }
+        ensures room { KeepsTrue (D.universe provider.now) self.old self.new }
         ensures firing { OnOk result (IsFiring (D.universe provider.now) chosen.now.keys (notes_in self.old) (notes_in self.new)) }
         ensures quiet { OnOk result (IsQuietFor (D.universe provider.now) chosen.now.keys solvable (notes_in self.old) (notes_in self.new)) }
         ensures fired { IfOk result (HasFired (notes_in self.old) (notes_in self.new)) }
@@ -206,7 +179,7 @@ impl<N: Copy + Eq + Hash + Drop, S: Copy + Eq + Hash + Drop> Encoding<N, S> {
     {
         let name = provider.solvable_name(solvable);
         let numbers = Vec::from_slice(self.alloc, self.deferred_by_name.named(name))?;
-        let any = self.fire_each(provider, cache, chosen, &numbers)?;
+        let any = self.fire_each(provider, chosen, &numbers)?;
         Ok(any)
     }
 
@@ -215,15 +188,13 @@ impl<N: Copy + Eq + Hash + Drop, S: Copy + Eq + Hash + Drop> Encoding<N, S> {
     pub(super) fn fire_deferred<D: DependencyProvider<NameId = N, SolvableId = S>>(
         &mut self,
         provider: &D,
-        cache: &mut Cache<N, S>,
         chosen: &IndexSet<S>,
         from: usize,
     ) -> Result<bool, Interrupted<D::Cancel>>
-        requires is_true { IsTrueCache (D.universe provider.now) cache.old }
+        requires is_true { IsTrueCache (D.universe provider.now) (cache_in self.old) }
         requires encoding { IsEncodingOf (D.universe provider.now) (λ root. ⊤) (notes_in self.old) }
         requires within { from ≤ length chosen.now.keys }
-        ensures room { KeepsRoom self.old self.new }
-        ensures is_true { IsTrueCache (D.universe provider.now) cache.new }
+        ensures room { KeepsTrue (D.universe provider.now) self.old self.new }
         ensures firing { OnOk result (IsFiring (D.universe provider.now) chosen.now.keys (notes_in self.old) (notes_in self.new)) }
         ensures quiet { OnOk result (IsQuietFrom (D.universe provider.now) chosen.now.keys from (notes_in self.old) (notes_in self.new)) }
         ensures fired { IfOk result (HasFired (notes_in self.old) (notes_in self.new)) }
@@ -232,7 +203,7 @@ impl<N: Copy + Eq + Hash + Drop, S: Copy + Eq + Hash + Drop> Encoding<N, S> {
         let mut any = false;
         for place in from..chosen.len() {
             let solvable = chosen.as_slice()[place];
-            any |= self.fire_named(provider, cache, chosen, solvable)?;
+            any |= self.fire_named(provider, chosen, solvable)?;
         }
         Ok(any)
     }

@@ -10,13 +10,13 @@ ghost use Rattle.resolver_encoding.specs.Refusals.{IsShortage, IsStop};
 
 use super::Encoding;
 use resolver_clause_store::{
-    Cache, ClauseKind, DependencyProvider, Exhausted, Interner, Interrupted, Origin, VersionSetId,
-    append, is_among,
+    ClauseKind, DependencyProvider, Exhausted, Interner, Interrupted, Origin, VersionSetId, append,
+    is_among,
 };
 use std::hash::Hash;
 
 impl<N: Copy + Eq + Hash + Drop, S: Copy + Eq + Hash + Drop> Encoding<N, S> {
-    ghost use Rattle.resolver_encoding.specs.Notes.{KeepsRoom, notes_in};
+    ghost use Rattle.resolver_encoding.specs.Notes.{KeepsRoom, KeepsTrue, cache_in, notes_in};
 
     /// Adds the clauses by which each of these candidates implies the condition helper of a version set.
     fn imply_each<D: DependencyProvider<NameId = N, SolvableId = S>>(
@@ -45,12 +45,10 @@ impl<N: Copy + Eq + Hash + Drop, S: Copy + Eq + Hash + Drop> Encoding<N, S> {
     fn help<D: DependencyProvider<NameId = N, SolvableId = S>>(
         &mut self,
         provider: &D,
-        cache: &mut Cache<N, S>,
         version_set: VersionSetId,
     ) -> Result<(), Interrupted<D::Cancel>>
-        requires is_true { IsTrueCache (D.universe provider.now) cache.old }
-        ensures room { KeepsRoom self.old self.new }
-        ensures is_true { IsTrueCache (D.universe provider.now) cache.new }
+        requires is_true { IsTrueCache (D.universe provider.now) (cache_in self.old) }
+        ensures room { KeepsTrue (D.universe provider.now) self.old self.new }
         ensures step { OnOk result (IsStep (D.universe provider.now) (λ root. ⊤) (notes_in self.old) (notes_in self.new)) }
         ensures helped { OnOk result (Contains (notes_in self.new).helped version_set) }
         ensures refusal { IfErr result (IsStop (D.may_cancel provider.now) (IsFull (notes_in self.new))) }
@@ -58,8 +56,9 @@ impl<N: Copy + Eq + Hash + Drop, S: Copy + Eq + Hash + Drop> Encoding<N, S> {
         if is_among(&self.helped, &version_set) {
             return Ok(());
         }
-        cache.fetch_matching(provider, version_set)?;
-        self.imply_each(provider, version_set, cache.matching(version_set))?;
+        self.cache.fetch_matching(provider, version_set)?;
+        let candidates = Vec::from_slice(self.alloc, self.cache.matching(version_set))?;
+        self.imply_each(provider, version_set, &candidates)?;
         append(&mut self.helped, version_set)?;
         Ok(())
     }
@@ -68,18 +67,16 @@ impl<N: Copy + Eq + Hash + Drop, S: Copy + Eq + Hash + Drop> Encoding<N, S> {
     pub(super) fn help_each<D: DependencyProvider<NameId = N, SolvableId = S>>(
         &mut self,
         provider: &D,
-        cache: &mut Cache<N, S>,
         disjunct: &[VersionSetId],
     ) -> Result<(), Interrupted<D::Cancel>>
-        requires is_true { IsTrueCache (D.universe provider.now) cache.old }
-        ensures room { KeepsRoom self.old self.new }
-        ensures is_true { IsTrueCache (D.universe provider.now) cache.new }
+        requires is_true { IsTrueCache (D.universe provider.now) (cache_in self.old) }
+        ensures room { KeepsTrue (D.universe provider.now) self.old self.new }
         ensures step { OnOk result (IsStep (D.universe provider.now) (λ root. ⊤) (notes_in self.old) (notes_in self.new)) }
         ensures helped { OnOk result (All (Contains (notes_in self.new).helped) disjunct.now) }
         ensures refusal { IfErr result (IsStop (D.may_cancel provider.now) (IsFull (notes_in self.new))) }
     {
         for version_set in disjunct {
-            self.help(provider, cache, *version_set)?;
+            self.help(provider, *version_set)?;
         }
         Ok(())
     }

@@ -72,7 +72,7 @@ fn is_out_of_reach<N: Copy + Eq + Hash + Drop, S: Copy + Eq + Hash + Drop>(
 }
 
 impl<N: Copy + Eq + Hash + Drop, S: Copy + Eq + Hash + Drop> Encoding<N, S> {
-    ghost use Rattle.resolver_encoding.specs.Notes.{KeepsRoom, notes_in};
+    ghost use Rattle.resolver_encoding.specs.Notes.{KeepsTrue, cache_in, notes_in};
 
     /// Returns the solvable that a positive literal stands for, if any.
     fn stated(&self, literal: Literal) -> Option<S>
@@ -128,25 +128,26 @@ impl<N: Copy + Eq + Hash + Drop, S: Copy + Eq + Hash + Drop> Encoding<N, S> {
     fn read_if_at_hand<D: DependencyProvider<NameId = N, SolvableId = S>>(
         &mut self,
         provider: &D,
-        cache: &mut Cache<N, S>,
         chosen: &IndexSet<S>,
         candidate: S,
     ) -> Result<(), Interrupted<D::Cancel>>
-        requires is_true { IsTrueCache (D.universe provider.now) cache.old }
+        requires is_true { IsTrueCache (D.universe provider.now) (cache_in self.old) }
         requires half { IsHalfReading (D.universe provider.now) (notes_in self.old) }
         requires seen { Contains (notes_in self.old).seen candidate }
-        ensures room { KeepsRoom self.old self.new }
-        ensures is_true { IsTrueCache (D.universe provider.now) cache.new }
+        ensures room { KeepsTrue (D.universe provider.now) self.old self.new }
         ensures reading { OnOk result (IsReadingOf (D.universe provider.now) chosen.now.keys (λ s. candidate ≡ s) (notes_in self.old) (notes_in self.new)) }
-        ensures here { OnOk result (IsAvailable (D.universe provider.now) cache.old candidate → Contains (notes_in self.new).read candidate) }
-        ensures only { OnOk result ((IsAvailable (D.universe provider.now) cache.old candidate → ⊥) → notes_in self.new ≡ notes_in self.old) }
+        ensures here { OnOk result (IsAvailable (D.universe provider.now) (cache_in self.old) candidate → Contains (notes_in self.new).read candidate) }
+        ensures only { OnOk result ((IsAvailable (D.universe provider.now) (cache_in self.old) candidate → ⊥) → notes_in self.new ≡ notes_in self.old) }
         ensures more { OnOk result (IsMoreOrSame (notes_in self.old) (notes_in self.new)) }
         ensures refusal { IfErr result (IsStop (D.may_cancel provider.now) (IsFull (notes_in self.new))) }
     {
-        if !cache.are_dependencies_available_for(provider, candidate) {
+        if !self
+            .cache
+            .are_dependencies_available_for(provider, candidate)
+        {
             return Ok(());
         }
-        self.read_new(provider, cache, chosen, candidate)?;
+        self.read_new(provider, chosen, candidate)?;
         Ok(())
     }
 
@@ -157,17 +158,15 @@ impl<N: Copy + Eq + Hash + Drop, S: Copy + Eq + Hash + Drop> Encoding<N, S> {
     fn read_candidate<D: DependencyProvider<NameId = N, SolvableId = S>>(
         &mut self,
         provider: &D,
-        cache: &mut Cache<N, S>,
         chosen: &IndexSet<S>,
         hintless: Option<N>,
         candidate: S,
     ) -> Result<Option<N>, Interrupted<D::Cancel>>
-        requires is_true { IsTrueCache (D.universe provider.now) cache.old }
+        requires is_true { IsTrueCache (D.universe provider.now) (cache_in self.old) }
         requires half { IsHalfReading (D.universe provider.now) (notes_in self.old) }
         requires seen { Contains (notes_in self.old).seen candidate }
         requires hintless { IfSome hintless (HintsAtNone (D.universe provider.now)) }
-        ensures room { KeepsRoom self.old self.new }
-        ensures is_true { IsTrueCache (D.universe provider.now) cache.new }
+        ensures room { KeepsTrue (D.universe provider.now) self.old self.new }
         ensures reading { OnOk result (IsReadingOf (D.universe provider.now) chosen.now.keys (λ s. candidate ≡ s) (notes_in self.old) (notes_in self.new)) }
         ensures here { OnOk result (IsHinted (D.universe provider.now) candidate → Contains (notes_in self.new).read candidate) }
         ensures hintless { IfOk result (λ next. IfSome next (HintsAtNone (D.universe provider.now))) }
@@ -175,18 +174,18 @@ impl<N: Copy + Eq + Hash + Drop, S: Copy + Eq + Hash + Drop> Encoding<N, S> {
         ensures refusal { IfErr result (IsStop (D.may_cancel provider.now) (IsFull (notes_in self.new))) }
     {
         let name = provider.solvable_name(candidate);
-        if is_out_of_reach(cache, hintless, name, candidate) {
+        if is_out_of_reach(&self.cache, hintless, name, candidate) {
             return Ok(hintless);
         }
         if is_among(&self.read, &candidate) {
             return Ok(hintless);
         }
-        cache.fetch_candidates(provider, name)?;
-        let next = without_hints(cache, name);
-        if is_out_of_reach(cache, next, name, candidate) {
+        self.cache.fetch_candidates(provider, name)?;
+        let next = without_hints(&self.cache, name);
+        if is_out_of_reach(&self.cache, next, name, candidate) {
             return Ok(next);
         }
-        self.read_if_at_hand(provider, cache, chosen, candidate)?;
+        self.read_if_at_hand(provider, chosen, candidate)?;
         Ok(next)
     }
 
@@ -194,17 +193,15 @@ impl<N: Copy + Eq + Hash + Drop, S: Copy + Eq + Hash + Drop> Encoding<N, S> {
     fn read_candidates<D: DependencyProvider<NameId = N, SolvableId = S>>(
         &mut self,
         provider: &D,
-        cache: &mut Cache<N, S>,
         chosen: &IndexSet<S>,
         place: usize,
         candidates: &[S],
     ) -> Result<(), Interrupted<D::Cancel>>
-        requires is_true { IsTrueCache (D.universe provider.now) cache.old }
+        requires is_true { IsTrueCache (D.universe provider.now) (cache_in self.old) }
         requires half { IsHalfReading (D.universe provider.now) (notes_in self.old) }
         requires listed { candidates.now ≡ candidates_at (notes_in self.old) place }
         requires within { place < length (notes_in self.old).requirements }
-        ensures room { KeepsRoom self.old self.new }
-        ensures is_true { IsTrueCache (D.universe provider.now) cache.new }
+        ensures room { KeepsTrue (D.universe provider.now) self.old self.new }
         ensures reading { OnOk result (IsHintedReading (D.universe provider.now) chosen.now.keys place (notes_in self.old) (notes_in self.new)) }
         ensures here { OnOk result (AreReadIfHinted (D.universe provider.now) (notes_in self.new) (candidates_at (notes_in self.new) place)) }
         ensures more { OnOk result (IsMoreOrSame (notes_in self.old) (notes_in self.new)) }
@@ -212,7 +209,7 @@ impl<N: Copy + Eq + Hash + Drop, S: Copy + Eq + Hash + Drop> Encoding<N, S> {
     {
         let mut hintless = None;
         for candidate in candidates {
-            hintless = self.read_candidate(provider, cache, chosen, hintless, *candidate)?;
+            hintless = self.read_candidate(provider, chosen, hintless, *candidate)?;
         }
         Ok(())
     }
@@ -221,22 +218,20 @@ impl<N: Copy + Eq + Hash + Drop, S: Copy + Eq + Hash + Drop> Encoding<N, S> {
     fn read_hinted_at<D: DependencyProvider<NameId = N, SolvableId = S>>(
         &mut self,
         provider: &D,
-        cache: &mut Cache<N, S>,
         chosen: &IndexSet<S>,
         place: usize,
     ) -> Result<(), Interrupted<D::Cancel>>
-        requires is_true { IsTrueCache (D.universe provider.now) cache.old }
+        requires is_true { IsTrueCache (D.universe provider.now) (cache_in self.old) }
         requires half { IsHalfReading (D.universe provider.now) (notes_in self.old) }
         requires within { place < length (notes_in self.old).requirements }
-        ensures room { KeepsRoom self.old self.new }
-        ensures is_true { IsTrueCache (D.universe provider.now) cache.new }
+        ensures room { KeepsTrue (D.universe provider.now) self.old self.new }
         ensures reading { OnOk result (IsHintedReading (D.universe provider.now) chosen.now.keys place (notes_in self.old) (notes_in self.new)) }
         ensures here { OnOk result (AreReadIfHinted (D.universe provider.now) (notes_in self.new) (candidates_at (notes_in self.new) place)) }
         ensures more { OnOk result (IsMoreOrSame (notes_in self.old) (notes_in self.new)) }
         ensures refusal { IfErr result (IsStop (D.may_cancel provider.now) (IsFull (notes_in self.new))) }
     {
         let candidates = self.listed_candidates(place)?;
-        self.read_candidates(provider, cache, chosen, place, &candidates)?;
+        self.read_candidates(provider, chosen, place, &candidates)?;
         Ok(())
     }
 
@@ -246,16 +241,14 @@ impl<N: Copy + Eq + Hash + Drop, S: Copy + Eq + Hash + Drop> Encoding<N, S> {
     fn read_hinted_each<D: DependencyProvider<NameId = N, SolvableId = S>>(
         &mut self,
         provider: &D,
-        cache: &mut Cache<N, S>,
         chosen: &IndexSet<S>,
         from: usize,
         until: usize,
     ) -> Result<bool, Interrupted<D::Cancel>>
-        requires is_true { IsTrueCache (D.universe provider.now) cache.old }
+        requires is_true { IsTrueCache (D.universe provider.now) (cache_in self.old) }
         requires half { IsHalfReading (D.universe provider.now) (notes_in self.old) }
         requires within { until ≤ length (notes_in self.old).requirements }
-        ensures room { KeepsRoom self.old self.new }
-        ensures is_true { IsTrueCache (D.universe provider.now) cache.new }
+        ensures room { KeepsTrue (D.universe provider.now) self.old self.new }
         ensures reading { OnOk result (IsHintedReading (D.universe provider.now) chosen.now.keys from (notes_in self.old) (notes_in self.new)) }
         ensures here { OnOk result (AreHintsReadTo (D.universe provider.now) from until (notes_in self.new)) }
         ensures any_new { IfOk result (HasRead (notes_in self.old) (notes_in self.new)) }
@@ -264,7 +257,7 @@ impl<N: Copy + Eq + Hash + Drop, S: Copy + Eq + Hash + Drop> Encoding<N, S> {
     {
         let before = self.read.len();
         for place in from..until {
-            self.read_hinted_at(provider, cache, chosen, place)?;
+            self.read_hinted_at(provider, chosen, place)?;
         }
         self.table.variables.are_within_limit();
         if before < self.read.len() {
@@ -280,15 +273,13 @@ impl<N: Copy + Eq + Hash + Drop, S: Copy + Eq + Hash + Drop> Encoding<N, S> {
     pub(super) fn read_hinted<D: DependencyProvider<NameId = N, SolvableId = S>>(
         &mut self,
         provider: &D,
-        cache: &mut Cache<N, S>,
         chosen: &IndexSet<S>,
         from: usize,
     ) -> Result<bool, Interrupted<D::Cancel>>
-        requires is_true { IsTrueCache (D.universe provider.now) cache.old }
+        requires is_true { IsTrueCache (D.universe provider.now) (cache_in self.old) }
         requires half { IsHalfReading (D.universe provider.now) (notes_in self.old) }
         requires within { from ≤ length (notes_in self.old).requirements }
-        ensures room { KeepsRoom self.old self.new }
-        ensures is_true { IsTrueCache (D.universe provider.now) cache.new }
+        ensures room { KeepsTrue (D.universe provider.now) self.old self.new }
         ensures reading { OnOk result (IsHintedReading (D.universe provider.now) chosen.now.keys from (notes_in self.old) (notes_in self.new)) }
         ensures here { OnOk result (AreHintsRead (D.universe provider.now) from (notes_in self.new)) }
         ensures any_new { IfOk result (HasRead (notes_in self.old) (notes_in self.new)) }
@@ -299,7 +290,7 @@ impl<N: Copy + Eq + Hash + Drop, S: Copy + Eq + Hash + Drop> Encoding<N, S> {
         let mut any = false;
         'waves: loop {
             let until = self.requirement_count();
-            if !self.read_hinted_each(provider, cache, chosen, place, until)? {
+            if !self.read_hinted_each(provider, chosen, place, until)? {
                 return Ok(any);
             }
             any = true;

@@ -5,20 +5,20 @@ ghost use Rattle.resolver_clause_store.specs.Caches.{IsTrueCache};
 ghost use Rattle.resolver_clause_store.specs.Candidates.{version_sets};
 ghost use Rattle.resolver_clause_store.specs.declared.ClauseKind.TheVariants.{Excluded as ExcludedKind, Lock as LockKind};
 ghost use Rattle.resolver_encoding.specs.Called.{IsAsking, IsNamedBy};
-ghost use Rattle.resolver_encoding.specs.Encodings.{AreNamesAsked, IsAskStep, IsFull, IsLockRead, IsStepWhile, KeepsLimits, asking_for};
+ghost use Rattle.resolver_encoding.specs.Encodings.{AreNamesAsked, IsAskStep, IsFull, IsLockRead, IsStepWhile, asking_for};
 ghost use Rattle.resolver_encoding.specs.Refusals.{IsShortage, IsStop};
 ghost use Rattle.resolver_encoding.specs.Steps.{CallsOnly, HasUnlessExempt, IsPackageStep};
 ghost use Rattle.resolver_encoding.specs.Turns.{AddsPlainly, AsksOnly};
 
 use super::Encoding;
 use resolver_clause_store::{
-    Cache, ClauseKind, DependencyProvider, Exhausted, Interner, Interrupted, Requirement, StringId,
+    ClauseKind, DependencyProvider, Exhausted, Interner, Interrupted, Requirement, StringId,
     VersionSetId, append, is_among,
 };
 use std::hash::Hash;
 
 impl<N: Copy + Eq + Hash + Drop, S: Copy + Eq + Hash + Drop> Encoding<N, S> {
-    ghost use Rattle.resolver_encoding.specs.Notes.{KeepsRoom, notes_in};
+    ghost use Rattle.resolver_encoding.specs.Notes.{KeepsRoom, KeepsTrue, cache_in, notes_in};
 
     /// Forbids a listed candidate if another one is locked, unless it is exempt.
     pub(super) fn lock_out<D: DependencyProvider<NameId = N, SolvableId = S>>(
@@ -127,24 +127,25 @@ impl<N: Copy + Eq + Hash + Drop, S: Copy + Eq + Hash + Drop> Encoding<N, S> {
     pub fn ask<D: DependencyProvider<NameId = N, SolvableId = S>>(
         &mut self,
         provider: &D,
-        cache: &mut Cache<N, S>,
         name: N,
     ) -> Result<(), Interrupted<D::Cancel>>
-        requires is_true { IsTrueCache (D.universe provider.now) cache.old }
-        ensures is_true { IsTrueCache (D.universe provider.now) cache.new }
+        requires is_true { IsTrueCache (D.universe provider.now) (cache_in self.old) }
         ensures step { OnOk result (IsAskStep (D.universe provider.now) (IsAsking name) (λ root. ⊤) (notes_in self.old) (notes_in self.new)) }
         ensures alone { OnOk result (AsksOnly (D.universe provider.now) name (notes_in self.old) (notes_in self.new)) }
         ensures asked { OnOk result (Contains (notes_in self.new).asked name) }
-        ensures limits { KeepsLimits (notes_in self.old) (notes_in self.new) }
+        ensures limits { KeepsTrue (D.universe provider.now) self.old self.new }
         ensures refusal { IfErr result (IsStop (D.may_cancel provider.now) (IsFull (notes_in self.new))) }
     {
         if is_among(&self.asked, &name) {
             return Ok(());
         }
-        cache.fetch_candidates(provider, name)?;
-        let package = cache.candidates(name);
-        self.lock_out_others(provider, name, &package.candidates, package.locked)?;
-        self.exclude_each(provider, name, &package.excluded)?;
+        self.cache.fetch_candidates(provider, name)?;
+        let package = self.cache.candidates(name);
+        let locked = package.locked;
+        let listed = Vec::from_slice(self.alloc, &package.candidates)?;
+        let excluded = Vec::from_slice(self.alloc, &package.excluded)?;
+        self.lock_out_others(provider, name, &listed, locked)?;
+        self.exclude_each(provider, name, &excluded)?;
         append(&mut self.asked, name)?;
         Ok(())
     }
@@ -153,18 +154,16 @@ impl<N: Copy + Eq + Hash + Drop, S: Copy + Eq + Hash + Drop> Encoding<N, S> {
     pub(super) fn ask_each<D: DependencyProvider<NameId = N, SolvableId = S>>(
         &mut self,
         provider: &D,
-        cache: &mut Cache<N, S>,
         named: &[VersionSetId],
     ) -> Result<(), Interrupted<D::Cancel>>
-        requires is_true { IsTrueCache (D.universe provider.now) cache.old }
-        ensures room { KeepsRoom self.old self.new }
-        ensures is_true { IsTrueCache (D.universe provider.now) cache.new }
+        requires is_true { IsTrueCache (D.universe provider.now) (cache_in self.old) }
+        ensures room { KeepsTrue (D.universe provider.now) self.old self.new }
         ensures step { let u = D.universe provider.now in OnOk result (CallsOnly u (IsNamedBy u named.now) (notes_in self.old) (notes_in self.new)) }
         ensures asked { OnOk result (AreNamesAsked (D.universe provider.now) (notes_in self.new) named.now) }
         ensures refusal { IfErr result (IsStop (D.may_cancel provider.now) (IsFull (notes_in self.new))) }
     {
         for version_set in named {
-            self.ask(provider, cache, provider.version_set_name(*version_set))?;
+            self.ask(provider, provider.version_set_name(*version_set))?;
         }
         Ok(())
     }
@@ -173,12 +172,10 @@ impl<N: Copy + Eq + Hash + Drop, S: Copy + Eq + Hash + Drop> Encoding<N, S> {
     pub(super) fn ask_named<D: DependencyProvider<NameId = N, SolvableId = S>>(
         &mut self,
         provider: &D,
-        cache: &mut Cache<N, S>,
         requirement: Requirement,
     ) -> Result<(), Interrupted<D::Cancel>>
-        requires is_true { IsTrueCache (D.universe provider.now) cache.old }
-        ensures room { KeepsRoom self.old self.new }
-        ensures is_true { IsTrueCache (D.universe provider.now) cache.new }
+        requires is_true { IsTrueCache (D.universe provider.now) (cache_in self.old) }
+        ensures room { KeepsTrue (D.universe provider.now) self.old self.new }
         ensures step { let u = D.universe provider.now in OnOk result
             (CallsOnly u (IsNamedBy u (version_sets u requirement)) (notes_in self.old) (notes_in self.new)) }
         ensures asked { let u = D.universe provider.now in OnOk result (AreNamesAsked u (notes_in self.new) (version_sets u requirement)) }
@@ -186,11 +183,11 @@ impl<N: Copy + Eq + Hash + Drop, S: Copy + Eq + Hash + Drop> Encoding<N, S> {
     {
         match requirement {
             Requirement::Single(version_set) => {
-                self.ask_each(provider, cache, &[version_set])?;
+                self.ask_each(provider, &[version_set])?;
                 Ok(())
             }
             Requirement::Union(union) => {
-                self.ask_each(provider, cache, provider.version_sets_in_union(union))?;
+                self.ask_each(provider, provider.version_sets_in_union(union))?;
                 Ok(())
             }
         }

@@ -8,7 +8,7 @@ ghost use Rattle.resolver_clause_store.specs.declared.Origin.TheVariants.{Solvab
 ghost use Rattle.resolver_clause_store.specs.TrueRules.{demands_by};
 ghost use Rattle.resolver_encoding.specs.Called.{IsPlainlyNamed, IsPlainlyNamedByEach};
 ghost use Rattle.resolver_encoding.specs.Encodings.{AreDemandsRead, AreNamesAsked, AreNeedsRead, HasConstraints, HasRequirements, IsConstraintRead};
-ghost use Rattle.resolver_encoding.specs.Encodings.{IsEncoding, IsEncodingOf, IsFull, IsLeft, IsStep, IsUnread, KeepsLimits};
+ghost use Rattle.resolver_encoding.specs.Encodings.{IsEncoding, IsEncodingOf, IsFull, IsLeft, IsStep, IsUnread};
 ghost use Rattle.resolver_encoding.specs.Hints.{AreHintsRead, IsListedFrom};
 ghost use Rattle.resolver_encoding.specs.ReadState.{IsReadRequirement};
 ghost use Rattle.resolver_encoding.specs.Refusals.{IsShortage, IsStop};
@@ -21,8 +21,8 @@ use super::Encoding;
 use crate::progress::Progress;
 use indexmap::IndexSet;
 use resolver_clause_store::{
-    By, Cache, ClauseKind, ConditionalRequirement, Dependencies, DependencyProvider, Exhausted,
-    Interner, Interrupted, Origin, StringId, VersionSetId, append, is_among,
+    By, ClauseKind, ConditionalRequirement, Dependencies, DependencyProvider, Exhausted, Interner,
+    Interrupted, Origin, StringId, VersionSetId, append, is_among,
 };
 use std::hash::Hash;
 
@@ -48,7 +48,7 @@ struct Demands<'a> {
 
 impl<N: Copy + Eq + Hash + Drop, S: Copy + Eq + Hash + Drop> Encoding<N, S> {
     ghost use Rattle.resolver_encoding.specs.DemandsView.{demands_in};
-    ghost use Rattle.resolver_encoding.specs.Notes.{KeepsRoom, notes_in};
+    ghost use Rattle.resolver_encoding.specs.Notes.{KeepsRoom, KeepsTrue, cache_in, notes_in};
 
     /// Forbids a solvable whose dependencies are unknown.
     fn forbid_unknown<D: DependencyProvider<NameId = N, SolvableId = S>>(
@@ -71,12 +71,10 @@ impl<N: Copy + Eq + Hash + Drop, S: Copy + Eq + Hash + Drop> Encoding<N, S> {
     fn ask_plain<D: DependencyProvider<NameId = N, SolvableId = S>>(
         &mut self,
         provider: &D,
-        cache: &mut Cache<N, S>,
         requirement: ConditionalRequirement,
     ) -> Result<(), Interrupted<D::Cancel>>
-        requires is_true { IsTrueCache (D.universe provider.now) cache.old }
-        ensures room { KeepsRoom self.old self.new }
-        ensures is_true { IsTrueCache (D.universe provider.now) cache.new }
+        requires is_true { IsTrueCache (D.universe provider.now) (cache_in self.old) }
+        ensures room { KeepsTrue (D.universe provider.now) self.old self.new }
         ensures step { let u = D.universe provider.now in OnOk result
             (CallsOnly u (IsPlainlyNamed u requirement) (notes_in self.old) (notes_in self.new)) }
         ensures refusal { IfErr result (IsStop (D.may_cancel provider.now) (IsFull (notes_in self.new))) }
@@ -84,7 +82,7 @@ impl<N: Copy + Eq + Hash + Drop, S: Copy + Eq + Hash + Drop> Encoding<N, S> {
         match requirement.condition {
             Some(_) => Ok(()),
             None => {
-                self.ask_named(provider, cache, requirement.requirement)?;
+                self.ask_named(provider, requirement.requirement)?;
                 Ok(())
             }
         }
@@ -94,18 +92,16 @@ impl<N: Copy + Eq + Hash + Drop, S: Copy + Eq + Hash + Drop> Encoding<N, S> {
     fn ask_plain_each<D: DependencyProvider<NameId = N, SolvableId = S>>(
         &mut self,
         provider: &D,
-        cache: &mut Cache<N, S>,
         requirements: &[ConditionalRequirement],
     ) -> Result<(), Interrupted<D::Cancel>>
-        requires is_true { IsTrueCache (D.universe provider.now) cache.old }
-        ensures room { KeepsRoom self.old self.new }
-        ensures is_true { IsTrueCache (D.universe provider.now) cache.new }
+        requires is_true { IsTrueCache (D.universe provider.now) (cache_in self.old) }
+        ensures room { KeepsTrue (D.universe provider.now) self.old self.new }
         ensures step { let u = D.universe provider.now in OnOk result
             (CallsOnly u (IsPlainlyNamedByEach u requirements.now) (notes_in self.old) (notes_in self.new)) }
         ensures refusal { IfErr result (IsStop (D.may_cancel provider.now) (IsFull (notes_in self.new))) }
     {
         for requirement in requirements {
-            self.ask_plain(provider, cache, *requirement)?;
+            self.ask_plain(provider, *requirement)?;
         }
         Ok(())
     }
@@ -114,15 +110,13 @@ impl<N: Copy + Eq + Hash + Drop, S: Copy + Eq + Hash + Drop> Encoding<N, S> {
     fn read_requirements<D: DependencyProvider<NameId = N, SolvableId = S>>(
         &mut self,
         provider: &D,
-        cache: &mut Cache<N, S>,
         chosen: &IndexSet<S>,
         by: By<S>,
         requirements: &[ConditionalRequirement],
     ) -> Result<(), Interrupted<D::Cancel>>
-        requires is_true { IsTrueCache (D.universe provider.now) cache.old }
+        requires is_true { IsTrueCache (D.universe provider.now) (cache_in self.old) }
         requires encoding { let u = D.universe provider.now in IsEncodingOf u (HasRequirements u by requirements.now) (notes_in self.old) }
-        ensures room { KeepsRoom self.old self.new }
-        ensures is_true { IsTrueCache (D.universe provider.now) cache.new }
+        ensures room { KeepsTrue (D.universe provider.now) self.old self.new }
         ensures step { OnOk result
             (IsRequirementsStep (D.universe provider.now) chosen.now.keys by requirements.now (notes_in self.old) (notes_in self.new)) }
         ensures read { OnOk result (All
@@ -130,7 +124,7 @@ impl<N: Copy + Eq + Hash + Drop, S: Copy + Eq + Hash + Drop> Encoding<N, S> {
         ensures refusal { IfErr result (IsStop (D.may_cancel provider.now) (IsFull (notes_in self.new))) }
     {
         for requirement in requirements {
-            self.read_requirement(provider, cache, chosen, by, *requirement)?;
+            self.read_requirement(provider, chosen, by, *requirement)?;
         }
         Ok(())
     }
@@ -139,21 +133,19 @@ impl<N: Copy + Eq + Hash + Drop, S: Copy + Eq + Hash + Drop> Encoding<N, S> {
     fn read_constraints<D: DependencyProvider<NameId = N, SolvableId = S>>(
         &mut self,
         provider: &D,
-        cache: &mut Cache<N, S>,
         by: By<S>,
         constraints: &[VersionSetId],
     ) -> Result<(), Interrupted<D::Cancel>>
-        requires is_true { IsTrueCache (D.universe provider.now) cache.old }
+        requires is_true { IsTrueCache (D.universe provider.now) (cache_in self.old) }
         requires encoding { let u = D.universe provider.now in IsEncodingOf u (HasConstraints u by constraints.now) (notes_in self.old) }
-        ensures room { KeepsRoom self.old self.new }
-        ensures is_true { IsTrueCache (D.universe provider.now) cache.new }
+        ensures room { KeepsTrue (D.universe provider.now) self.old self.new }
         ensures step { OnOk result (IsConstraintsStep (D.universe provider.now) by constraints.now (notes_in self.old) (notes_in self.new)) }
         ensures read { OnOk result (All (IsConstraintRead (D.universe provider.now) (notes_in self.new).kinds by) constraints.now) }
         ensures asked { OnOk result (AreNamesAsked (D.universe provider.now) (notes_in self.new) constraints.now) }
         ensures refusal { IfErr result (IsStop (D.may_cancel provider.now) (IsFull (notes_in self.new))) }
     {
         for version_set in constraints {
-            self.read_constraint(provider, cache, by, *version_set)?;
+            self.read_constraint(provider, by, *version_set)?;
         }
         Ok(())
     }
@@ -164,24 +156,22 @@ impl<N: Copy + Eq + Hash + Drop, S: Copy + Eq + Hash + Drop> Encoding<N, S> {
     fn read_demands<D: DependencyProvider<NameId = N, SolvableId = S>>(
         &mut self,
         provider: &D,
-        cache: &mut Cache<N, S>,
         chosen: &IndexSet<S>,
         by: By<S>,
         demands: Demands<'_>,
     ) -> Result<(), Interrupted<D::Cancel>>
-        requires is_true { IsTrueCache (D.universe provider.now) cache.old }
+        requires is_true { IsTrueCache (D.universe provider.now) (cache_in self.old) }
         requires encoding { let u = D.universe provider.now in IsEncodingOf u (λ root. demands_by u root by ≡ demands_in demands) (notes_in self.old) }
-        ensures room { KeepsRoom self.old self.new }
-        ensures is_true { IsTrueCache (D.universe provider.now) cache.new }
+        ensures room { KeepsTrue (D.universe provider.now) self.old self.new }
         ensures step { OnOk result
             (IsDemandsStep (D.universe provider.now) chosen.now.keys by (demands_in demands.entry) (notes_in self.old) (notes_in self.new)) }
         ensures read { OnOk result (AreDemandsRead (D.universe provider.now) (notes_in self.new) by (demands_in demands.entry)) }
         ensures refusal { IfErr result (IsStop (D.may_cancel provider.now) (IsFull (notes_in self.new))) }
     {
-        self.ask_plain_each(provider, cache, demands.requirements)?;
-        self.ask_each(provider, cache, demands.constraints)?;
-        self.read_requirements(provider, cache, chosen, by, demands.requirements)?;
-        self.read_constraints(provider, cache, by, demands.constraints)?;
+        self.ask_plain_each(provider, demands.requirements)?;
+        self.ask_each(provider, demands.constraints)?;
+        self.read_requirements(provider, chosen, by, demands.requirements)?;
+        self.read_constraints(provider, by, demands.constraints)?;
         Ok(())
     }
 
@@ -189,22 +179,21 @@ impl<N: Copy + Eq + Hash + Drop, S: Copy + Eq + Hash + Drop> Encoding<N, S> {
     fn read_solvable<D: DependencyProvider<NameId = N, SolvableId = S>>(
         &mut self,
         provider: &D,
-        cache: &mut Cache<N, S>,
         chosen: &IndexSet<S>,
         solvable: S,
     ) -> Result<(), Interrupted<D::Cancel>>
-        requires is_true { IsTrueCache (D.universe provider.now) cache.old }
+        requires is_true { IsTrueCache (D.universe provider.now) (cache_in self.old) }
         requires encoding { IsEncodingOf (D.universe provider.now) (λ root. ⊤) (notes_in self.old) }
-        ensures room { KeepsRoom self.old self.new }
-        ensures is_true { IsTrueCache (D.universe provider.now) cache.new }
+        ensures room { KeepsTrue (D.universe provider.now) self.old self.new }
         ensures step { OnOk result (IsSolvableStep (D.universe provider.now) chosen.now.keys solvable (notes_in self.old) (notes_in self.new)) }
         ensures read { OnOk result (AreNeedsRead (D.universe provider.now) (notes_in self.new) solvable ((D.universe provider.now).needs solvable)) }
         ensures refusal { IfErr result (IsStop (D.may_cancel provider.now) (IsFull (notes_in self.new))) }
     {
-        cache.fetch_dependencies(provider, solvable)?;
-        match cache.dependencies(solvable) {
+        self.cache.fetch_dependencies(provider, solvable)?;
+        match self.cache.dependencies(solvable) {
             Dependencies::Unknown(reason) => {
-                self.forbid_unknown(provider, solvable, *reason)?;
+                let reason = *reason;
+                self.forbid_unknown(provider, solvable, reason)?;
                 Ok(())
             }
             Dependencies::Known(known) => {
@@ -214,7 +203,7 @@ impl<N: Copy + Eq + Hash + Drop, S: Copy + Eq + Hash + Drop> Encoding<N, S> {
                     requirements: &requirements,
                     constraints: &constraints,
                 };
-                self.read_demands(provider, cache, chosen, By::Solvable(solvable), demands)?;
+                self.read_demands(provider, chosen, By::Solvable(solvable), demands)?;
                 Ok(())
             }
         }
@@ -224,15 +213,13 @@ impl<N: Copy + Eq + Hash + Drop, S: Copy + Eq + Hash + Drop> Encoding<N, S> {
     pub(super) fn read_new<D: DependencyProvider<NameId = N, SolvableId = S>>(
         &mut self,
         provider: &D,
-        cache: &mut Cache<N, S>,
         chosen: &IndexSet<S>,
         solvable: S,
     ) -> Result<(), Interrupted<D::Cancel>>
-        requires is_true { IsTrueCache (D.universe provider.now) cache.old }
+        requires is_true { IsTrueCache (D.universe provider.now) (cache_in self.old) }
         requires encoding { IsEncodingOf (D.universe provider.now) (λ root. ⊤) (notes_in self.old) }
         requires known { Contains (notes_in self.old).origins (SolvableOrigin solvable) }
-        ensures room { KeepsRoom self.old self.new }
-        ensures is_true { IsTrueCache (D.universe provider.now) cache.new }
+        ensures room { KeepsTrue (D.universe provider.now) self.old self.new }
         ensures reading { OnOk result (IsReadingOf (D.universe provider.now) chosen.now.keys (λ s. solvable ≡ s) (notes_in self.old) (notes_in self.new)) }
         ensures here { OnOk result (Contains (notes_in self.new).read solvable) }
         ensures more { OnOk result (IsMoreOrSame (notes_in self.old) (notes_in self.new)) }
@@ -241,7 +228,7 @@ impl<N: Copy + Eq + Hash + Drop, S: Copy + Eq + Hash + Drop> Encoding<N, S> {
         if is_among(&self.read, &solvable) {
             return Ok(());
         }
-        self.read_solvable(provider, cache, chosen, solvable)?;
+        self.read_solvable(provider, chosen, solvable)?;
         append(&mut self.read, solvable)?;
         Ok(())
     }
@@ -250,16 +237,14 @@ impl<N: Copy + Eq + Hash + Drop, S: Copy + Eq + Hash + Drop> Encoding<N, S> {
     fn read_each<D: DependencyProvider<NameId = N, SolvableId = S>>(
         &mut self,
         provider: &D,
-        cache: &mut Cache<N, S>,
         chosen: &IndexSet<S>,
         from: usize,
     ) -> Result<bool, Interrupted<D::Cancel>>
-        requires is_true { IsTrueCache (D.universe provider.now) cache.old }
+        requires is_true { IsTrueCache (D.universe provider.now) (cache_in self.old) }
         requires half { IsHalfReading (D.universe provider.now) (notes_in self.old) }
         requires known { All (λ s. Contains (notes_in self.old).origins (SolvableOrigin s)) chosen.now.keys }
         requires within { from ≤ length chosen.now.keys }
-        ensures room { KeepsRoom self.old self.new }
-        ensures is_true { IsTrueCache (D.universe provider.now) cache.new }
+        ensures room { KeepsTrue (D.universe provider.now) self.old self.new }
         ensures reading { let set = chosen.now.keys in OnOk result
             (IsReadingOf (D.universe provider.now) set (Contains set) (notes_in self.old) (notes_in self.new)) }
         ensures here { OnOk result (All (Contains (notes_in self.new).read) (drop from chosen.now.keys)) }
@@ -270,7 +255,7 @@ impl<N: Copy + Eq + Hash + Drop, S: Copy + Eq + Hash + Drop> Encoding<N, S> {
         let before = self.read.len();
         for place in from..chosen.len() {
             let solvable = chosen.as_slice()[place];
-            self.read_new(provider, cache, chosen, solvable)?;
+            self.read_new(provider, chosen, solvable)?;
         }
         if before < self.read.len() {
             return Ok(true);
@@ -303,13 +288,11 @@ impl<N: Copy + Eq + Hash + Drop, S: Copy + Eq + Hash + Drop> Encoding<N, S> {
     pub fn read_root<D: DependencyProvider<NameId = N, SolvableId = S>>(
         &mut self,
         provider: &D,
-        cache: &mut Cache<N, S>,
         requirements: &[ConditionalRequirement],
         constraints: &[VersionSetId],
     ) -> Result<(), Interrupted<D::Cancel>>
-        requires is_true { IsTrueCache (D.universe provider.now) cache.old }
+        requires is_true { IsTrueCache (D.universe provider.now) (cache_in self.old) }
         requires nothing_read { IsUnread (notes_in self.old) }
-        ensures is_true { IsTrueCache (D.universe provider.now) cache.new }
         ensures read { let root = demands_with requirements.now constraints.now in OnOk result
             (IsReadSoFar (D.universe provider.now) root [] (notes_in self.new)) }
         ensures asked { let root = demands_with requirements.now constraints.now in OnOk result
@@ -319,7 +302,7 @@ impl<N: Copy + Eq + Hash + Drop, S: Copy + Eq + Hash + Drop> Encoding<N, S> {
         ensures reads { OnOk result ((s : S) → Contains (notes_in self.new).read s → IsListedFrom (notes_in self.new) 0 s) }
         ensures hinted { OnOk result (AreHintsRead (D.universe provider.now) 0 (notes_in self.new)) }
         ensures exempt { OnOk result ((notes_in self.new).exempt ≡ (notes_in self.old).exempt) }
-        ensures limits { KeepsLimits (notes_in self.old) (notes_in self.new) }
+        ensures limits { KeepsTrue (D.universe provider.now) self.old self.new }
         ensures refusal { IfErr result (IsStop (D.may_cancel provider.now) (IsFull (notes_in self.new))) }
     {
         self.install_root(provider)?;
@@ -328,8 +311,8 @@ impl<N: Copy + Eq + Hash + Drop, S: Copy + Eq + Hash + Drop> Encoding<N, S> {
             requirements,
             constraints,
         };
-        self.read_demands(provider, cache, &none, By::Root, demands)?;
-        self.read_hinted(provider, cache, &none, 0)?;
+        self.read_demands(provider, &none, By::Root, demands)?;
+        self.read_hinted(provider, &none, 0)?;
         Ok(())
     }
 
@@ -341,15 +324,13 @@ impl<N: Copy + Eq + Hash + Drop, S: Copy + Eq + Hash + Drop> Encoding<N, S> {
     pub fn read_chosen<D: DependencyProvider<NameId = N, SolvableId = S>>(
         &mut self,
         provider: &D,
-        cache: &mut Cache<N, S>,
         chosen: &IndexSet<S>,
         from: usize,
     ) -> Result<Progress, Interrupted<D::Cancel>>
-        requires is_true { IsTrueCache (D.universe provider.now) cache.old }
+        requires is_true { IsTrueCache (D.universe provider.now) (cache_in self.old) }
         requires reading { IsReading (D.universe provider.now) (take from chosen.now.keys) (notes_in self.old) }
         requires known { All (λ s. Contains (notes_in self.old).origins (SolvableOrigin s)) chosen.now.keys }
         requires within { from ≤ length chosen.now.keys }
-        ensures is_true { IsTrueCache (D.universe provider.now) cache.new }
         ensures read { let set = chosen.now.keys in OnOk result
             (ReadsOn (D.universe provider.now) set (take from set) (notes_in self.old) (notes_in self.new)) }
         ensures asked { let set = chosen.now.keys in OnOk result
@@ -360,13 +341,13 @@ impl<N: Copy + Eq + Hash + Drop, S: Copy + Eq + Hash + Drop> Encoding<N, S> {
         ensures more { OnOk result (IsReadMore (D.universe provider.now) chosen.now.keys (notes_in self.old) (notes_in self.new)) }
         ensures progress { IfOk result (IsProgress (notes_in self.old) (notes_in self.new)) }
         ensures fit { OnOk result (length (notes_in self.new).read ≤ (notes_in self.new).variable_limit) }
-        ensures limits { KeepsLimits (notes_in self.old) (notes_in self.new) }
+        ensures limits { KeepsTrue (D.universe provider.now) self.old self.new }
         ensures refusal { IfErr result (IsStop (D.may_cancel provider.now) (IsFull (notes_in self.new))) }
     {
         let clauses = self.requirement_count();
-        let read = self.read_each(provider, cache, chosen, from)?;
-        let fired = self.fire_deferred(provider, cache, chosen, from)?;
-        let hinted = self.read_hinted(provider, cache, chosen, clauses)?;
+        let read = self.read_each(provider, chosen, from)?;
+        let fired = self.fire_deferred(provider, chosen, from)?;
+        let hinted = self.read_hinted(provider, chosen, clauses)?;
         Ok(progress_of(read | hinted, fired))
     }
 }

@@ -18,8 +18,8 @@ use crate::choices::{Choices, choices_of};
 use crate::disjuncts::{Entry, disjuncts_of, is_met, without_repeats};
 use indexmap::IndexSet;
 use resolver_clause_store::{
-    By, Cache, ClauseKind, ConditionId, ConditionalRequirement, DependencyProvider, Disjunct,
-    Interner, Interrupted, Requirement, is_among,
+    By, ClauseKind, ConditionId, ConditionalRequirement, DependencyProvider, Disjunct, Interner,
+    Interrupted, Requirement, is_among,
 };
 use std::hash::Hash;
 
@@ -41,31 +41,29 @@ fn plain_requirer<S: Copy>(by: By<S>, condition: Option<ConditionId>) -> Option<
 }
 
 impl<N: Copy + Eq + Hash + Drop, S: Copy + Eq + Hash + Drop> Encoding<N, S> {
-    ghost use Rattle.resolver_encoding.specs.Notes.{KeepsRoom, entry_of, notes_in};
+    ghost use Rattle.resolver_encoding.specs.Notes.{KeepsTrue, cache_in, entry_of, notes_in};
 
     /// Encodes a requirement under a disjunct of its condition, with candidates that are registered.
     #[inline(always)]
     fn encode_choices<D: DependencyProvider<NameId = N, SolvableId = S>>(
         &mut self,
         provider: &D,
-        cache: &mut Cache<N, S>,
         entry: Entry<S>,
         choices: &Choices<S>,
     ) -> Result<(), Interrupted<D::Cancel>>
-        requires is_true { IsTrueCache (D.universe provider.now) cache.old }
+        requires is_true { IsTrueCache (D.universe provider.now) (cache_in self.old) }
         requires candidates { choices.now.candidates.items ≡ candidates_of (D.universe provider.now) entry.requirement }
         requires small { All (λ n. n < 2 ^ 63) choices.now.counts.items }
         requires asked { let u = D.universe provider.now in AreNamesAsked u (notes_in self.old) (version_sets u entry.requirement) }
         requires seen { All (Contains (notes_in self.old).seen) choices.now.candidates.items }
         requires once { AreDistinct entry.disjunct.items }
-        ensures room { KeepsRoom self.old self.new }
-        ensures is_true { IsTrueCache (D.universe provider.now) cache.new }
+        ensures room { KeepsTrue (D.universe provider.now) self.old self.new }
         ensures step { let u = D.universe provider.now in OnOk result
             (IsStep u (IsTrueUnder u (entry_of entry)) (notes_in self.old) (notes_in self.new)) }
         ensures read { OnOk result (Contains (notes_in self.new).kinds (RequiresKind entry.by entry.disjunct.items entry.requirement)) }
         ensures refusal { IfErr result (IsStop (D.may_cancel provider.now) (IsFull (notes_in self.new))) }
     {
-        self.help_each(provider, cache, &entry.disjunct)?;
+        self.help_each(provider, &entry.disjunct)?;
         let Entry {
             by,
             disjunct,
@@ -84,12 +82,10 @@ impl<N: Copy + Eq + Hash + Drop, S: Copy + Eq + Hash + Drop> Encoding<N, S> {
     fn choose<D: DependencyProvider<NameId = N, SolvableId = S>>(
         &mut self,
         provider: &D,
-        cache: &mut Cache<N, S>,
         requirement: Requirement,
     ) -> Result<Choices<S>, Interrupted<D::Cancel>>
-        requires is_true { IsTrueCache (D.universe provider.now) cache.old }
-        ensures room { KeepsRoom self.old self.new }
-        ensures is_true { IsTrueCache (D.universe provider.now) cache.new }
+        requires is_true { IsTrueCache (D.universe provider.now) (cache_in self.old) }
+        ensures room { KeepsTrue (D.universe provider.now) self.old self.new }
         ensures candidates { IfOk result (λ choices. choices.candidates.items ≡ candidates_of (D.universe provider.now) requirement) }
         ensures small { IfOk result (λ choices. All (λ n. n < 2 ^ 63) choices.counts.items) }
         ensures step { let u = D.universe provider.now in OnOk result (CallsOnly u (IsWantedBy u requirement) (notes_in self.old) (notes_in self.new)) }
@@ -97,8 +93,8 @@ impl<N: Copy + Eq + Hash + Drop, S: Copy + Eq + Hash + Drop> Encoding<N, S> {
         ensures seen { IfOk result (λ choices. All (Contains (notes_in self.new).seen) choices.candidates.items) }
         ensures refusal { IfErr result (IsStop (D.may_cancel provider.now) (IsFull (notes_in self.new))) }
     {
-        self.ask_named(provider, cache, requirement)?;
-        let choices = choices_of(self.alloc, provider, cache, requirement)?;
+        self.ask_named(provider, requirement)?;
+        let choices = choices_of(self.alloc, provider, &mut self.cache, requirement)?;
         self.see_all(provider, &choices.candidates)?;
         Ok(choices)
     }
@@ -107,19 +103,17 @@ impl<N: Copy + Eq + Hash + Drop, S: Copy + Eq + Hash + Drop> Encoding<N, S> {
     pub(super) fn encode_disjunct<D: DependencyProvider<NameId = N, SolvableId = S>>(
         &mut self,
         provider: &D,
-        cache: &mut Cache<N, S>,
         entry: Entry<S>,
     ) -> Result<(), Interrupted<D::Cancel>>
-        requires is_true { IsTrueCache (D.universe provider.now) cache.old }
+        requires is_true { IsTrueCache (D.universe provider.now) (cache_in self.old) }
         requires once { AreDistinct entry.disjunct.items }
-        ensures room { KeepsRoom self.old self.new }
-        ensures is_true { IsTrueCache (D.universe provider.now) cache.new }
+        ensures room { KeepsTrue (D.universe provider.now) self.old self.new }
         ensures step { OnOk result (IsEntryStep (D.universe provider.now) (entry_of entry) (notes_in self.old) (notes_in self.new)) }
         ensures read { OnOk result (HasClause (notes_in self.new).kinds entry.by entry.disjunct.items entry.requirement) }
         ensures refusal { IfErr result (IsStop (D.may_cancel provider.now) (IsFull (notes_in self.new))) }
     {
-        let choices = self.choose(provider, cache, entry.requirement)?;
-        self.encode_choices(provider, cache, entry, &choices)?;
+        let choices = self.choose(provider, entry.requirement)?;
+        self.encode_choices(provider, entry, &choices)?;
         Ok(())
     }
 
@@ -128,22 +122,20 @@ impl<N: Copy + Eq + Hash + Drop, S: Copy + Eq + Hash + Drop> Encoding<N, S> {
     fn read_disjunct<D: DependencyProvider<NameId = N, SolvableId = S>>(
         &mut self,
         provider: &D,
-        cache: &mut Cache<N, S>,
         chosen: &IndexSet<S>,
         entry: Entry<S>,
     ) -> Result<(), Interrupted<D::Cancel>>
-        requires is_true { IsTrueCache (D.universe provider.now) cache.old }
+        requires is_true { IsTrueCache (D.universe provider.now) (cache_in self.old) }
         requires once { AreDistinct entry.disjunct.items }
-        ensures room { KeepsRoom self.old self.new }
-        ensures is_true { IsTrueCache (D.universe provider.now) cache.new }
+        ensures room { KeepsTrue (D.universe provider.now) self.old self.new }
         ensures step { OnOk result
             (IsDisjunctStep (D.universe provider.now) chosen.now.keys (entry_of entry) (notes_in self.old) (notes_in self.new)) }
         ensures read { OnOk result (IsEntryRead (notes_in self.new) (entry_of entry)) }
         ensures refusal { IfErr result (IsStop (D.may_cancel provider.now) (IsFull (notes_in self.new))) }
     {
-        let met = is_met(provider, cache, chosen, &entry.disjunct)?;
+        let met = is_met(provider, &mut self.cache, chosen, &entry.disjunct)?;
         if met {
-            self.encode_disjunct(provider, cache, entry)?;
+            self.encode_disjunct(provider, entry)?;
             return Ok(());
         }
         self.defer(provider, entry)?;
@@ -154,14 +146,12 @@ impl<N: Copy + Eq + Hash + Drop, S: Copy + Eq + Hash + Drop> Encoding<N, S> {
     fn read_direct<D: DependencyProvider<NameId = N, SolvableId = S>>(
         &mut self,
         provider: &D,
-        cache: &mut Cache<N, S>,
         chosen: &IndexSet<S>,
         by: By<S>,
         requirement: ConditionalRequirement,
     ) -> Result<(), Interrupted<D::Cancel>>
-        requires is_true { IsTrueCache (D.universe provider.now) cache.old }
-        ensures room { KeepsRoom self.old self.new }
-        ensures is_true { IsTrueCache (D.universe provider.now) cache.new }
+        requires is_true { IsTrueCache (D.universe provider.now) (cache_in self.old) }
+        ensures room { KeepsTrue (D.universe provider.now) self.old self.new }
         ensures step { OnOk result
             (IsRequirementStep (D.universe provider.now) chosen.now.keys by requirement (notes_in self.old) (notes_in self.new)) }
         ensures read { OnOk result (IsReadRequirement (D.universe provider.now) (notes_in self.new).kinds (IsLeft (notes_in self.new)) by requirement) }
@@ -175,7 +165,7 @@ impl<N: Copy + Eq + Hash + Drop, S: Copy + Eq + Hash + Drop> Encoding<N, S> {
                 disjunct,
                 requirement: requirement.requirement,
             };
-            self.read_disjunct(provider, cache, chosen, entry)?;
+            self.read_disjunct(provider, chosen, entry)?;
         }
         Ok(())
     }
@@ -184,14 +174,12 @@ impl<N: Copy + Eq + Hash + Drop, S: Copy + Eq + Hash + Drop> Encoding<N, S> {
     fn read_plain<D: DependencyProvider<NameId = N, SolvableId = S>>(
         &mut self,
         provider: &D,
-        cache: &mut Cache<N, S>,
         requirer: S,
         requirement: Requirement,
     ) -> Result<(), Interrupted<D::Cancel>>
-        requires is_true { IsTrueCache (D.universe provider.now) cache.old }
+        requires is_true { IsTrueCache (D.universe provider.now) (cache_in self.old) }
         requires encoding { let u = D.universe provider.now in IsEncodingOf u (HasPlainRequirement u requirer requirement) (notes_in self.old) }
-        ensures room { KeepsRoom self.old self.new }
-        ensures is_true { IsTrueCache (D.universe provider.now) cache.new }
+        ensures room { KeepsTrue (D.universe provider.now) self.old self.new }
         ensures step { OnOk result (IsPlainStep (D.universe provider.now) requirer requirement (notes_in self.old) (notes_in self.new)) }
         ensures read { OnOk result (HasClause (notes_in self.new).kinds (BySolvable requirer) [] requirement) }
         ensures refusal { IfErr result (IsStop (D.may_cancel provider.now) (IsFull (notes_in self.new))) }
@@ -200,7 +188,7 @@ impl<N: Copy + Eq + Hash + Drop, S: Copy + Eq + Hash + Drop> Encoding<N, S> {
             self.imply_gate(provider, requirer, requirement)?;
             return Ok(());
         }
-        let choices = self.choose(provider, cache, requirement)?;
+        let choices = self.choose(provider, requirement)?;
         if choices.candidates.len() < GATE_THRESHOLD {
             let none = Vec::new(self.alloc);
             let entry = Entry {
@@ -208,7 +196,7 @@ impl<N: Copy + Eq + Hash + Drop, S: Copy + Eq + Hash + Drop> Encoding<N, S> {
                 disjunct: none,
                 requirement,
             };
-            self.encode_choices(provider, cache, entry, &choices)?;
+            self.encode_choices(provider, entry, &choices)?;
             return Ok(());
         }
         self.make_gate(provider, requirement, &choices)?;
@@ -220,15 +208,13 @@ impl<N: Copy + Eq + Hash + Drop, S: Copy + Eq + Hash + Drop> Encoding<N, S> {
     pub(super) fn read_requirement<D: DependencyProvider<NameId = N, SolvableId = S>>(
         &mut self,
         provider: &D,
-        cache: &mut Cache<N, S>,
         chosen: &IndexSet<S>,
         by: By<S>,
         requirement: ConditionalRequirement,
     ) -> Result<(), Interrupted<D::Cancel>>
-        requires is_true { IsTrueCache (D.universe provider.now) cache.old }
+        requires is_true { IsTrueCache (D.universe provider.now) (cache_in self.old) }
         requires encoding { IsEncodingOf (D.universe provider.now) (HasRequirement (D.universe provider.now) by requirement) (notes_in self.old) }
-        ensures room { KeepsRoom self.old self.new }
-        ensures is_true { IsTrueCache (D.universe provider.now) cache.new }
+        ensures room { KeepsTrue (D.universe provider.now) self.old self.new }
         ensures step { OnOk result
             (IsRequirementStep (D.universe provider.now) chosen.now.keys by requirement (notes_in self.old) (notes_in self.new)) }
         ensures read { OnOk result (IsReadRequirement (D.universe provider.now) (notes_in self.new).kinds (IsLeft (notes_in self.new)) by requirement) }
@@ -236,11 +222,11 @@ impl<N: Copy + Eq + Hash + Drop, S: Copy + Eq + Hash + Drop> Encoding<N, S> {
     {
         match plain_requirer(by, requirement.condition) {
             Some(requirer) => {
-                self.read_plain(provider, cache, requirer, requirement.requirement)?;
+                self.read_plain(provider, requirer, requirement.requirement)?;
                 Ok(())
             }
             None => {
-                self.read_direct(provider, cache, chosen, by, requirement)?;
+                self.read_direct(provider, chosen, by, requirement)?;
                 Ok(())
             }
         }

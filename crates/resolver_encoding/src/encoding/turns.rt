@@ -4,20 +4,20 @@ ghost use Rattle.std.specs.Prelude.{◌≡◌, ◌≤◌, ◌+◌, All, Contains
 ghost use Rattle.resolver_clause_store.specs.Caches.{IsTrueCache};
 ghost use Rattle.resolver_clause_store.specs.declared.ClauseKind.TheVariants.{Excluded as Excludes};
 ghost use Rattle.resolver_clause_store.specs.declared.Origin.TheVariants.{Solvable as SolvableOrigin};
-ghost use Rattle.resolver_encoding.specs.Encodings.{IsFull, IsStepWhile, KeepsLimits, owing_for};
+ghost use Rattle.resolver_encoding.specs.Encodings.{IsFull, IsStepWhile, owing_for};
 ghost use Rattle.resolver_encoding.specs.Refusals.{IsShortage, IsStop};
 ghost use Rattle.resolver_encoding.specs.Steps.{ExemptsOne, HasLock, HasUnlessExempt};
 ghost use Rattle.resolver_encoding.specs.Turns.{AddsPlainly, IsRestored, IsRegistered, IsTurnEnd, StaysRead};
 
 use super::Encoding;
 use resolver_clause_store::{
-    Cache, DependencyProvider, Exhausted, Interner, Interrupted, Origin, StringId, Variable,
-    append, has, is_among,
+    DependencyProvider, Exhausted, Interner, Interrupted, Origin, StringId, Variable, append, has,
+    is_among,
 };
 use std::hash::Hash;
 
 impl<N: Copy + Eq + Hash + Drop, S: Copy + Eq + Hash + Drop> Encoding<N, S> {
-    ghost use Rattle.resolver_encoding.specs.Notes.{KeepsRoom, notes_in};
+    ghost use Rattle.resolver_encoding.specs.Notes.{KeepsRoom, KeepsTrue, cache_in, notes_in};
 
     /// Returns the solvables that are exempt from locks and exclusions, in the order in which they became exempt.
     pub fn exempt(&self) -> &[S]
@@ -36,7 +36,7 @@ impl<N: Copy + Eq + Hash + Drop, S: Copy + Eq + Hash + Drop> Encoding<N, S> {
     ) -> Result<Variable, Exhausted>
         ensures registered { OnOk result (IsRegistered (D.universe provider.now) solvable (notes_in self.old) (notes_in self.new)) }
         ensures variable { IfOk result (λ v. slice_get (notes_in self.new).origins v ≡ Some (SolvableOrigin solvable)) }
-        ensures limits { KeepsLimits (notes_in self.old) (notes_in self.new) }
+        ensures limits { KeepsRoom self.old self.new }
         ensures refusal { IfErr result (IsShortage (IsFull (notes_in self.new))) }
     {
         let variable = self.table.variables.intern(Origin::Solvable(solvable))?;
@@ -56,6 +56,7 @@ impl<N: Copy + Eq + Hash + Drop, S: Copy + Eq + Hash + Drop> Encoding<N, S> {
         ensures few { length (notes_in self.new).exempt ≤ length (notes_in self.old).exempt + 1 }
         ensures exempts { OnOk result (ExemptsOne (D.universe provider.now) solvable (notes_in self.old) (notes_in self.new)) }
         ensures stays { OnOk result (StaysRead (D.universe provider.now) (notes_in self.old) (notes_in self.new)) }
+        ensures limits { KeepsRoom self.old self.new }
         ensures memory { IfErr result (λ e. e ≡ Exhausted.Memory) }
     {
         let name = provider.solvable_name(solvable);
@@ -151,12 +152,10 @@ impl<N: Copy + Eq + Hash + Drop, S: Copy + Eq + Hash + Drop> Encoding<N, S> {
     fn restore<D: DependencyProvider<NameId = N, SolvableId = S>>(
         &mut self,
         provider: &D,
-        cache: &mut Cache<N, S>,
         solvable: S,
     ) -> Result<(), Interrupted<D::Cancel>>
-        requires is_true { IsTrueCache (D.universe provider.now) cache.old }
-        ensures room { KeepsRoom self.old self.new }
-        ensures is_true { IsTrueCache (D.universe provider.now) cache.new }
+        requires is_true { IsTrueCache (D.universe provider.now) (cache_in self.old) }
+        ensures room { KeepsTrue (D.universe provider.now) self.old self.new }
         ensures step { OnOk result (IsStepWhile (D.universe provider.now) (owing_for solvable) (λ root. ⊤) (notes_in self.old) (notes_in self.new)) }
         ensures plain { OnOk result (AddsPlainly (notes_in self.old) (notes_in self.new)) }
         ensures restored { OnOk result (IsRestored (D.universe provider.now) solvable (notes_in self.new)) }
@@ -166,16 +165,13 @@ impl<N: Copy + Eq + Hash + Drop, S: Copy + Eq + Hash + Drop> Encoding<N, S> {
         if !is_among(&self.asked, &name) {
             return Ok(());
         }
-        cache.fetch_candidates(provider, name)?;
-        let package = cache.candidates(name);
-        self.restore_lock(
-            provider,
-            name,
-            &package.candidates,
-            package.locked,
-            solvable,
-        )?;
-        self.restore_exclusions(provider, name, &package.excluded, solvable)?;
+        self.cache.fetch_candidates(provider, name)?;
+        let package = self.cache.candidates(name);
+        let locked = package.locked;
+        let listed = Vec::from_slice(self.alloc, &package.candidates)?;
+        let excluded = Vec::from_slice(self.alloc, &package.excluded)?;
+        self.restore_lock(provider, name, &listed, locked, solvable)?;
+        self.restore_exclusions(provider, name, &excluded, solvable)?;
         Ok(())
     }
 
@@ -187,15 +183,13 @@ impl<N: Copy + Eq + Hash + Drop, S: Copy + Eq + Hash + Drop> Encoding<N, S> {
     pub fn end_turn<D: DependencyProvider<NameId = N, SolvableId = S>>(
         &mut self,
         provider: &D,
-        cache: &mut Cache<N, S>,
         exempt_before: usize,
     ) -> Result<(), Interrupted<D::Cancel>>
-        requires is_true { IsTrueCache (D.universe provider.now) cache.old }
+        requires is_true { IsTrueCache (D.universe provider.now) (cache_in self.old) }
         requires one_turn { length (notes_in self.old).exempt ≤ exempt_before + 1 }
-        ensures is_true { IsTrueCache (D.universe provider.now) cache.new }
         ensures ended { OnOk result (IsTurnEnd (D.universe provider.now) (notes_in self.old) (notes_in self.new)) }
         ensures exempt { OnOk result ((notes_in self.new).exempt ≡ take exempt_before (notes_in self.old).exempt) }
-        ensures limits { KeepsLimits (notes_in self.old) (notes_in self.new) }
+        ensures limits { KeepsTrue (D.universe provider.now) self.old self.new }
         ensures refusal { IfErr result (IsStop (D.may_cancel provider.now) (IsFull (notes_in self.new))) }
     {
         if self.exempt.len() <= exempt_before {
@@ -204,7 +198,7 @@ impl<N: Copy + Eq + Hash + Drop, S: Copy + Eq + Hash + Drop> Encoding<N, S> {
         match self.exempt.pop() {
             None => Ok(()),
             Some(solvable) => {
-                self.restore(provider, cache, solvable)?;
+                self.restore(provider, solvable)?;
                 Ok(())
             }
         }

@@ -8,7 +8,7 @@ ghost use Rattle.resolver_clause_store.specs.Laws.{IsIdentity};
 ghost use Rattle.resolver_clause_store.specs.Variables.{origins_in};
 ghost use Rattle.resolver_clause_store.specs.declared.Origin.TheVariants.{Solvable as SolvableOrigin};
 ghost use Rattle.resolver_encoding.specs.Encodings.{IsUnread};
-ghost use Rattle.resolver_encoding.specs.Notes.{notes_in};
+ghost use Rattle.resolver_encoding.specs.Notes.{cache_in, notes_in};
 ghost use Rattle.resolver_encoding.specs.SoFar.{IsReading};
 ghost use Rattle.resolvo.specs.TestProvider.{test_universe};
 
@@ -23,6 +23,7 @@ use resolver_encoding::{Encoding, Progress};
 use std::alloc::Global;
 use std::cell::Cell;
 use std::hash::Hash;
+use std::mem::replace;
 use std::test::Fail;
 
 type Literals<'a> = &'a [(Origin<u32, u32>, bool)];
@@ -88,7 +89,9 @@ fn spare<
     S: Copy + Eq + Hash + Drop,
     D: DependencyProvider<NameId = N, SolvableId = S>,
 >(encoding: &mut Encoding<N, S>, provider: &D, exempt: Option<S>) -> Result<(), Exhausted>
+    requires is_true { IsTrueCache (D.universe provider.now) (cache_in encoding.old) }
     requires nothing_read { IsUnread (notes_in encoding.old) }
+    ensures is_true { IsTrueCache (D.universe provider.now) (cache_in encoding.new) }
     ensures nothing_read { OnOk result (IsUnread (notes_in encoding.new)) }
     ensures memory { IfErr result (λ e. e ≡ Exhausted.Memory) }
 {
@@ -198,16 +201,15 @@ fn read_given<
     alloc: Global,
     encoding: &mut Encoding<N, S>,
     provider: &D,
-    cache: &mut Cache<N, S>,
     given: &[S],
 ) -> Result<Progress, Interrupted<D::Cancel>>
-    requires is_true { IsTrueCache (D.universe provider.now) cache.old }
+    requires is_true { IsTrueCache (D.universe provider.now) (cache_in encoding.old) }
     requires reading { IsReading (D.universe provider.now) [] (notes_in encoding.old) }
-    ensures is_true { IsTrueCache (D.universe provider.now) cache.new }
+    ensures is_true { IsTrueCache (D.universe provider.now) (cache_in encoding.new) }
     ensures reading { OnOk result (IsReading (D.universe provider.now) [] (notes_in encoding.new)) }
 {
     let chosen = chosen_of(alloc, encoding.variables(), given)?;
-    let progress = encoding.read_chosen(provider, cache, &chosen, 0)?;
+    let progress = encoding.read_chosen(provider, &chosen, 0)?;
     Ok(progress)
 }
 
@@ -220,15 +222,14 @@ fn read_known<
     alloc: Global,
     encoding: &mut Encoding<N, S>,
     provider: &D,
-    cache: &mut Cache<N, S>,
 ) -> Result<Progress, Interrupted<D::Cancel>>
-    requires is_true { IsTrueCache (D.universe provider.now) cache.old }
+    requires is_true { IsTrueCache (D.universe provider.now) (cache_in encoding.old) }
     requires reading { IsReading (D.universe provider.now) [] (notes_in encoding.old) }
-    ensures is_true { IsTrueCache (D.universe provider.now) cache.new }
+    ensures is_true { IsTrueCache (D.universe provider.now) (cache_in encoding.new) }
     ensures reading { OnOk result (IsReading (D.universe provider.now) [] (notes_in encoding.new)) }
 {
     let known = registered(alloc, encoding.variables())?;
-    let progress = read_given(alloc, encoding, provider, cache, &known)?;
+    let progress = read_given(alloc, encoding, provider, &known)?;
     Ok(progress)
 }
 
@@ -241,18 +242,17 @@ fn read<
     alloc: Global,
     encoding: &mut Encoding<N, S>,
     provider: &D,
-    cache: &mut Cache<N, S>,
     exempt: Option<S>,
     requirements: &[ConditionalRequirement],
 ) -> Result<(), Interrupted<D::Cancel>>
-    requires is_true { IsTrueCache (D.universe provider.now) cache.old }
+    requires is_true { IsTrueCache (D.universe provider.now) (cache_in encoding.old) }
     requires nothing_read { IsUnread (notes_in encoding.old) }
-    ensures { IsTrueCache (D.universe provider.now) cache.new }
+    ensures { IsTrueCache (D.universe provider.now) (cache_in encoding.new) }
 {
     spare(encoding, provider, exempt)?;
-    encoding.read_root(provider, cache, requirements, &[])?;
+    encoding.read_root(provider, requirements, &[])?;
     for _ in 0..4 {
-        read_known(alloc, encoding, provider, cache)?;
+        read_known(alloc, encoding, provider)?;
     }
     Ok(())
 }
@@ -264,21 +264,16 @@ fn is_asked<
     N: Copy + Eq + Hash + Drop,
     S: Copy + Eq + Hash + Drop,
     D: DependencyProvider<NameId = N, SolvableId = S>,
->(
-    encoding: &mut Encoding<N, S>,
-    provider: &D,
-    cache: &mut Cache<N, S>,
-    solvable: S,
-) -> Result<bool, Interrupted<D::Cancel>>
-    requires is_true { IsTrueCache (D.universe provider.now) cache.old }
+>(encoding: &mut Encoding<N, S>, provider: &D, solvable: S) -> Result<bool, Interrupted<D::Cancel>>
+    requires is_true { IsTrueCache (D.universe provider.now) (cache_in encoding.old) }
     requires reading { IsReading (D.universe provider.now) [] (notes_in encoding.old) }
-    ensures is_true { IsTrueCache (D.universe provider.now) cache.new }
+    ensures is_true { IsTrueCache (D.universe provider.now) (cache_in encoding.new) }
     ensures reading { OnOk result (IsReading (D.universe provider.now) [] (notes_in encoding.new)) }
 {
     let before = encoding.exempt().len();
     encoding.begin_turn(provider, solvable)?;
     let is_asked = encoding.exempt().len() == before;
-    encoding.end_turn(provider, cache, before)?;
+    encoding.end_turn(provider, before)?;
     Ok(is_asked)
 }
 
@@ -286,18 +281,17 @@ fn is_asked<
 fn asked_count(
     encoding: &mut Encoding<u32, u32>,
     provider: &TestProvider,
-    cache: &mut Cache<u32, u32>,
 ) -> Result<usize, Interrupted<u8>>
-    requires is_true { IsTrueCache (test_universe provider.now.requirements.items provider.now.constraints.items) cache.old }
+    requires is_true { IsTrueCache (test_universe provider.now.requirements.items provider.now.constraints.items) (cache_in encoding.old) }
     requires reading { IsReading (test_universe provider.now.requirements.items provider.now.constraints.items) []
         (notes_in encoding.old) }
-    ensures is_true { IsTrueCache (test_universe provider.now.requirements.items provider.now.constraints.items) cache.new }
+    ensures is_true { IsTrueCache (test_universe provider.now.requirements.items provider.now.constraints.items) (cache_in encoding.new) }
     ensures reading { OnOk result (IsReading (test_universe provider.now.requirements.items provider.now.constraints.items) []
         (notes_in encoding.new)) }
 {
     let mut count: usize = 0;
     for name in 0..100u32 {
-        let asked = is_asked(encoding, provider, cache, 10 * name + 1)?;
+        let asked = is_asked(encoding, provider, 10 * name + 1)?;
         count = count.saturating_add(asked as usize);
     }
     Ok(count)
@@ -307,21 +301,20 @@ fn asked_count(
 fn rounds_of(
     encoding: &mut Encoding<u32, u32>,
     provider: &TestProvider,
-    cache: &mut Cache<u32, u32>,
     requirements: &[ConditionalRequirement],
     turns: &[&[u32]],
 ) -> Result<Vec<Round>, Interrupted<u8>>
-    requires is_true { IsTrueCache (test_universe provider.now.requirements.items provider.now.constraints.items) cache.old }
+    requires is_true { IsTrueCache (test_universe provider.now.requirements.items provider.now.constraints.items) (cache_in encoding.old) }
     requires nothing_read { IsUnread (notes_in encoding.old) }
-    ensures { IsTrueCache (test_universe provider.now.requirements.items provider.now.constraints.items) cache.new }
+    ensures { IsTrueCache (test_universe provider.now.requirements.items provider.now.constraints.items) (cache_in encoding.new) }
 {
-    encoding.read_root(provider, cache, requirements, &[])?;
+    encoding.read_root(provider, requirements, &[])?;
     let mut rounds = Vec::new(provider.alloc);
     for given in turns {
-        let progress = read_given(provider.alloc, encoding, provider, cache, given)?;
+        let progress = read_given(provider.alloc, encoding, provider, given)?;
         let clauses = encoding.clause_count();
         let deferred = encoding.deferred_count();
-        let asked = asked_count(encoding, provider, cache)?;
+        let asked = asked_count(encoding, provider)?;
         rounds.push((progress, clauses, deferred, asked, provider.log.get()))?;
     }
     Ok(rounds)
@@ -421,25 +414,17 @@ fn are_rounds(outcome: &Result<Vec<Round>, Interrupted<u8>>, wanted: &[Round]) -
 }
 
 /// Takes the steps, and returns whether they have the expected result.
-fn are_done(
-    encoding: &mut Encoding<u32, u32>,
-    provider: &TestProvider,
-    cache: &mut Cache<u32, u32>,
-    case: &Case<'_>,
-) -> bool
-    requires is_true { IsTrueCache (test_universe provider.now.requirements.items provider.now.constraints.items) cache.old }
+fn are_done(encoding: &mut Encoding<u32, u32>, provider: &TestProvider, case: &Case<'_>) -> bool
+    requires is_true { IsTrueCache (test_universe provider.now.requirements.items provider.now.constraints.items) (cache_in encoding.old) }
     requires nothing_read { IsUnread (notes_in encoding.old) }
-    ensures { IsTrueCache (test_universe provider.now.requirements.items provider.now.constraints.items) cache.new }
+    ensures { IsTrueCache (test_universe provider.now.requirements.items provider.now.constraints.items) (cache_in encoding.new) }
 {
     match &case.steps {
-        Steps::Root => encoding
-            .read_root(provider, cache, case.requirements, &[])
-            .is_ok(),
+        Steps::Root => encoding.read_root(provider, case.requirements, &[]).is_ok(),
         Steps::Known => read(
             provider.alloc,
             encoding,
             provider,
-            cache,
             case.exempt,
             case.requirements,
         )
@@ -449,14 +434,13 @@ fn are_done(
                 provider.alloc,
                 encoding,
                 provider,
-                cache,
                 case.exempt,
                 case.requirements,
             );
             is_out_of_ids(&outcome) & (encoding.variables().len() == *variables)
         }
         Steps::Rounds(turns, rounds) => {
-            let outcome = rounds_of(encoding, provider, cache, case.requirements, turns);
+            let outcome = rounds_of(encoding, provider, case.requirements, turns);
             are_rounds(&outcome, rounds)
         }
         Steps::Registered(solvables) => register_all(encoding, provider, solvables).is_ok(),
@@ -465,7 +449,6 @@ fn are_done(
                 provider.alloc,
                 encoding,
                 provider,
-                cache,
                 case.requirements,
                 *solvable,
                 given,
@@ -506,8 +489,11 @@ fn holds_within(
     requires is_true { IsTrueCache (test_universe provider.now.requirements.items provider.now.constraints.items) cache.old }
     ensures { IsTrueCache (test_universe provider.now.requirements.items provider.now.constraints.items) cache.new }
 {
-    let mut encoding = Encoding::new(alloc, limits.0, limits.1);
-    are_done(&mut encoding, provider, cache, case) & is_there_then(&encoding, case)
+    let taken = replace(cache, Cache::new(alloc));
+    let mut encoding = Encoding::new(alloc, taken, limits.0, limits.1);
+    let holds = are_done(&mut encoding, provider, case) & is_there_then(&encoding, case);
+    drop(replace(cache, encoding.into_cache()));
+    holds
 }
 
 /// Returns whether a test succeeds, within these limits.

@@ -2,7 +2,6 @@
 
 ghost use Rattle.std.specs.Iterator.{Drains, IsFinite};
 ghost use Rattle.std.specs.Prelude.{◌++◌, ◌∷◌, [], All, Contains, IfErr, IfOk, IfSome, MatchBool, OnOk, map};
-ghost use Rattle.resolver_clause_store.specs.Caches.{IsTrueCache};
 ghost use Rattle.resolver_clause_store.specs.Laws.{IsIdentity};
 ghost use Rattle.resolver_clause_store.specs.Lists.{Meets};
 ghost use Rattle.resolver_clause_store.specs.declared.SoftRequirement.TheVariants.{Matching, Solvable};
@@ -12,7 +11,7 @@ ghost use Rattle.resolvo.specs.Problems.{AreItems};
 use super::Rounds;
 use indexmap::IndexSet;
 use resolver_clause_store::{
-    Cache, DependencyProvider, Interner, Interrupted, Requirement, SoftRequirement, VersionSetId,
+    DependencyProvider, Interner, Interrupted, Requirement, SoftRequirement, VersionSetId,
     is_among, requirement_candidates,
 };
 use std::hash::Hash;
@@ -38,21 +37,18 @@ impl<N: Copy + Eq + Hash + Drop, S: Copy + Eq + Hash + Drop> Rounds<N, S> {
     fn take_first<D: DependencyProvider<NameId = N, SolvableId = S>>(
         &mut self,
         provider: &D,
-        cache: &mut Cache<N, S>,
         candidates: &[S],
     ) -> Result<bool, Interrupted<D::Cancel>>
         requires rest { AreAtRest (D.universe provider.now) self.old }
-        requires is_true { IsTrueCache (D.universe provider.now) cache.old }
         requires asked { All (λ s. Contains (notes_of self.old).asked ((D.universe provider.now).name s)) candidates.now }
         requires none { Meets candidates.now (chosen_of self.old) → ⊥ }
-        ensures is_true { IsTrueCache (D.universe provider.now) cache.new }
         ensures rest { OnOk result (AreAtRest (D.universe provider.now) self.new) }
         ensures turned { IfOk result (TakesFirst (D.universe provider.now) candidates.now self.old self.new) }
-        ensures limits { KeepsRoundLimits self.old self.new }
+        ensures limits { KeepsRoundLimits (D.universe provider.now) self.old self.new }
         ensures refusal { IfErr result (IsStop (D.may_cancel provider.now) (IsStuck self.new)) }
     {
         for candidate in candidates {
-            if self.turn(provider, cache, *candidate)? {
+            if self.turn(provider, *candidate)? {
                 return Ok(true);
             }
         }
@@ -63,19 +59,16 @@ impl<N: Copy + Eq + Hash + Drop, S: Copy + Eq + Hash + Drop> Rounds<N, S> {
     fn ask<D: DependencyProvider<NameId = N, SolvableId = S>>(
         &mut self,
         provider: &D,
-        cache: &mut Cache<N, S>,
         version_set: VersionSetId,
     ) -> Result<(), Interrupted<D::Cancel>>
         requires rest { AreAtRest (D.universe provider.now) self.old }
-        requires is_true { IsTrueCache (D.universe provider.now) cache.old }
-        ensures is_true { IsTrueCache (D.universe provider.now) cache.new }
         ensures rest { OnOk result (AreAtRest (D.universe provider.now) self.new) }
         ensures asked { OnOk result (HasAsked (D.universe provider.now) version_set self.old self.new) }
-        ensures limits { KeepsRoundLimits self.old self.new }
+        ensures limits { KeepsRoundLimits (D.universe provider.now) self.old self.new }
         ensures refusal { IfErr result (IsStop (D.may_cancel provider.now) (IsStuck self.new)) }
     {
         let name = provider.version_set_name(version_set);
-        self.encoding.ask(provider, cache, name)?;
+        self.encoding.ask(provider, name)?;
         self.load(provider)?;
         Ok(())
     }
@@ -85,23 +78,24 @@ impl<N: Copy + Eq + Hash + Drop, S: Copy + Eq + Hash + Drop> Rounds<N, S> {
     fn version_set_turn<D: DependencyProvider<NameId = N, SolvableId = S>>(
         &mut self,
         provider: &D,
-        cache: &mut Cache<N, S>,
         version_set: VersionSetId,
     ) -> Result<(), Interrupted<D::Cancel>>
         requires rest { AreAtRest (D.universe provider.now) self.old }
-        requires is_true { IsTrueCache (D.universe provider.now) cache.old }
-        ensures is_true { IsTrueCache (D.universe provider.now) cache.new }
         ensures rest { OnOk result (AreAtRest (D.universe provider.now) self.new) }
         ensures between { OnOk result (TakesTurns (D.universe provider.now) (Matching version_set ∷ []) self.old self.new) }
-        ensures limits { KeepsRoundLimits self.old self.new }
+        ensures limits { KeepsRoundLimits (D.universe provider.now) self.old self.new }
         ensures refusal { IfErr result (IsStop (D.may_cancel provider.now) (IsStuck self.new)) }
     {
-        let candidates = requirement_candidates(cache, provider, Requirement::Single(version_set))?;
+        let candidates = requirement_candidates(
+            &mut self.encoding.cache,
+            provider,
+            Requirement::Single(version_set),
+        )?;
         if has_any(self.chosen.solvables(), &candidates) {
             return Ok(());
         }
-        self.ask(provider, cache, version_set)?;
-        self.take_first(provider, cache, &candidates)?;
+        self.ask(provider, version_set)?;
+        self.take_first(provider, &candidates)?;
         Ok(())
     }
 
@@ -109,24 +103,21 @@ impl<N: Copy + Eq + Hash + Drop, S: Copy + Eq + Hash + Drop> Rounds<N, S> {
     fn soft_turn<D: DependencyProvider<NameId = N, SolvableId = S>>(
         &mut self,
         provider: &D,
-        cache: &mut Cache<N, S>,
         requirement: SoftRequirement<S>,
     ) -> Result<(), Interrupted<D::Cancel>>
         requires rest { AreAtRest (D.universe provider.now) self.old }
-        requires is_true { IsTrueCache (D.universe provider.now) cache.old }
-        ensures is_true { IsTrueCache (D.universe provider.now) cache.new }
         ensures rest { OnOk result (AreAtRest (D.universe provider.now) self.new) }
         ensures between { OnOk result (TakesTurns (D.universe provider.now) (requirement ∷ []) self.old self.new) }
-        ensures limits { KeepsRoundLimits self.old self.new }
+        ensures limits { KeepsRoundLimits (D.universe provider.now) self.old self.new }
         ensures refusal { IfErr result (IsStop (D.may_cancel provider.now) (IsStuck self.new)) }
     {
         match requirement {
             SoftRequirement::Solvable(solvable) => {
-                self.turn(provider, cache, solvable)?;
+                self.turn(provider, solvable)?;
                 Ok(())
             }
             SoftRequirement::Matching(version_set) => {
-                self.version_set_turn(provider, cache, version_set)?;
+                self.version_set_turn(provider, version_set)?;
                 Ok(())
             }
         }
@@ -136,24 +127,17 @@ impl<N: Copy + Eq + Hash + Drop, S: Copy + Eq + Hash + Drop> Rounds<N, S> {
     fn solvable_turns<
         D: DependencyProvider<NameId = N, SolvableId = S>,
         I: Iterator<Item = S> + Drop,
-    >(
-        &mut self,
-        provider: &D,
-        cache: &mut Cache<N, S>,
-        soft: I,
-    ) -> Result<(), Interrupted<D::Cancel>>
+    >(&mut self, provider: &D, soft: I) -> Result<(), Interrupted<D::Cancel>>
         requires can_next { I.can_next soft }
         requires ends { IsFinite (I.remaining soft) }
         requires rest { AreAtRest (D.universe provider.now) self.old }
-        requires is_true { IsTrueCache (D.universe provider.now) cache.old }
-        ensures is_true { IsTrueCache (D.universe provider.now) cache.new }
         ensures rest { OnOk result (AreAtRest (D.universe provider.now) self.new) }
         ensures between { OnOk result (TakesAll (D.universe provider.now) (Drains I.next_gives soft) (map Solvable) self.old self.new) }
-        ensures limits { KeepsRoundLimits self.old self.new }
+        ensures limits { KeepsRoundLimits (D.universe provider.now) self.old self.new }
         ensures refusal { IfErr result (IsStop (D.may_cancel provider.now) (IsStuck self.new)) }
     {
         for solvable in soft {
-            self.soft_turn(provider, cache, SoftRequirement::Solvable(solvable))?;
+            self.soft_turn(provider, SoftRequirement::Solvable(solvable))?;
         }
         Ok(())
     }
@@ -162,19 +146,16 @@ impl<N: Copy + Eq + Hash + Drop, S: Copy + Eq + Hash + Drop> Rounds<N, S> {
     fn list_turns<D: DependencyProvider<NameId = N, SolvableId = S>>(
         &mut self,
         provider: &D,
-        cache: &mut Cache<N, S>,
         list: &[SoftRequirement<S>],
     ) -> Result<(), Interrupted<D::Cancel>>
         requires rest { AreAtRest (D.universe provider.now) self.old }
-        requires is_true { IsTrueCache (D.universe provider.now) cache.old }
-        ensures is_true { IsTrueCache (D.universe provider.now) cache.new }
         ensures rounds { OnOk result (AreRounds (D.universe provider.now) self.new) }
         ensures between { OnOk result (TakesTurns (D.universe provider.now) list.now self.old self.new) }
-        ensures limits { KeepsRoundLimits self.old self.new }
+        ensures limits { KeepsRoundLimits (D.universe provider.now) self.old self.new }
         ensures refusal { IfErr result (IsStop (D.may_cancel provider.now) (IsStuck self.new)) }
     {
         for requirement in list {
-            self.soft_turn(provider, cache, *requirement)?;
+            self.soft_turn(provider, *requirement)?;
         }
         Ok(())
     }
@@ -183,22 +164,19 @@ impl<N: Copy + Eq + Hash + Drop, S: Copy + Eq + Hash + Drop> Rounds<N, S> {
     fn given_turns<D: DependencyProvider<NameId = N, SolvableId = S>, I: Iterator<Item = S> + Drop>(
         &mut self,
         provider: &D,
-        cache: &mut Cache<N, S>,
         soft: Option<I>,
     ) -> Result<(), Interrupted<D::Cancel>>
         requires can_next { IfSome soft (λ it. I.can_next it) }
         requires ends { IfSome soft (λ it. IsFinite (I.remaining it)) }
         requires rest { AreAtRest (D.universe provider.now) self.old }
-        requires is_true { IsTrueCache (D.universe provider.now) cache.old }
-        ensures is_true { IsTrueCache (D.universe provider.now) cache.new }
         ensures rest { OnOk result (AreAtRest (D.universe provider.now) self.new) }
         ensures between { OnOk result (TakesAll (D.universe provider.now) (AreItems I.next_gives soft) (map Solvable) self.old self.new) }
-        ensures limits { KeepsRoundLimits self.old self.new }
+        ensures limits { KeepsRoundLimits (D.universe provider.now) self.old self.new }
         ensures refusal { IfErr result (IsStop (D.may_cancel provider.now) (IsStuck self.new)) }
     {
         match soft {
             Some(soft) => {
-                self.solvable_turns(provider, cache, soft)?;
+                self.solvable_turns(provider, soft)?;
                 Ok(())
             }
             None => Ok(()),
@@ -212,23 +190,20 @@ impl<N: Copy + Eq + Hash + Drop, S: Copy + Eq + Hash + Drop> Rounds<N, S> {
     >(
         &mut self,
         provider: &D,
-        cache: &mut Cache<N, S>,
         soft: Option<I>,
         list: &[SoftRequirement<S>],
     ) -> Result<(), Interrupted<D::Cancel>>
         requires can_next { IfSome soft (λ it. I.can_next it) }
         requires ends { IfSome soft (λ it. IsFinite (I.remaining it)) }
         requires rest { AreAtRest (D.universe provider.now) self.old }
-        requires is_true { IsTrueCache (D.universe provider.now) cache.old }
-        ensures is_true { IsTrueCache (D.universe provider.now) cache.new }
         ensures rounds { OnOk result (AreRounds (D.universe provider.now) self.new) }
         ensures between { OnOk result
             (TakesAll (D.universe provider.now) (AreItems I.next_gives soft) (λ items. map Solvable items ++ list.now) self.old self.new) }
-        ensures limits { KeepsRoundLimits self.old self.new }
+        ensures limits { KeepsRoundLimits (D.universe provider.now) self.old self.new }
         ensures refusal { IfErr result (IsStop (D.may_cancel provider.now) (IsStuck self.new)) }
     {
-        self.given_turns(provider, cache, soft)?;
-        self.list_turns(provider, cache, list)?;
+        self.given_turns(provider, soft)?;
+        self.list_turns(provider, list)?;
         Ok(())
     }
 }

@@ -26,8 +26,5 @@ returns-clause-explained g c = λ root notes kinds encoding core.
     (subst Listed (sym kinds) c.in_ok-stated.ensures.listed) (subst Stated (sym kinds) c.in_ok-stated.ensures.stated)
     c.in_ok-rules.ensures.left c.in_ok-rules.ensures.refuted c.in_ok-rules.ensures.again)
 
-pub returns-clause-is_true : goal.returns-clause-is_true
-returns-clause-is_true g c = grind (arith, common_steps)
-
 pub returns-clause-refusal : goal.returns-clause-refusal
 returns-clause-refusal g c = grind (arith, common_steps)

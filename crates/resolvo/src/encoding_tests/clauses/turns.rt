@@ -2,7 +2,7 @@
 
 ghost use Rattle.resolver_clause_store.specs.Caches.{IsTrueCache};
 ghost use Rattle.resolver_encoding.specs.Encodings.{IsUnread};
-ghost use Rattle.resolver_encoding.specs.Notes.{notes_in};
+ghost use Rattle.resolver_encoding.specs.Notes.{cache_in, notes_in};
 
 use super::*;
 
@@ -15,19 +15,18 @@ fn begin<
     alloc: Global,
     encoding: &mut Encoding<N, S>,
     provider: &D,
-    cache: &mut Cache<N, S>,
     requirements: &[ConditionalRequirement],
     solvable: S,
     given: &[S],
 ) -> Result<(), Interrupted<D::Cancel>>
-    requires is_true { IsTrueCache (D.universe provider.now) cache.old }
+    requires is_true { IsTrueCache (D.universe provider.now) (cache_in encoding.old) }
     requires nothing_read { IsUnread (notes_in encoding.old) }
-    ensures is_true { IsTrueCache (D.universe provider.now) cache.new }
+    ensures is_true { IsTrueCache (D.universe provider.now) (cache_in encoding.new) }
 {
-    encoding.read_root(provider, cache, requirements, &[])?;
+    encoding.read_root(provider, requirements, &[])?;
     encoding.register(provider, solvable)?;
     encoding.begin_turn(provider, solvable)?;
-    read_given(alloc, encoding, provider, cache, given)?;
+    read_given(alloc, encoding, provider, given)?;
     Ok(())
 }
 
@@ -40,27 +39,18 @@ pub fn refused<
     alloc: Global,
     encoding: &mut Encoding<N, S>,
     provider: &D,
-    cache: &mut Cache<N, S>,
     requirements: &[ConditionalRequirement],
     solvable: S,
     given: &[S],
 ) -> Result<Turn, Interrupted<D::Cancel>>
-    requires is_true { IsTrueCache (D.universe provider.now) cache.old }
+    requires is_true { IsTrueCache (D.universe provider.now) (cache_in encoding.old) }
     requires nothing_read { IsUnread (notes_in encoding.old) }
-    ensures { IsTrueCache (D.universe provider.now) cache.new }
+    ensures { IsTrueCache (D.universe provider.now) (cache_in encoding.new) }
 {
-    begin(
-        alloc,
-        encoding,
-        provider,
-        cache,
-        requirements,
-        solvable,
-        given,
-    )?;
+    begin(alloc, encoding, provider, requirements, solvable, given)?;
     let clauses = encoding.clause_count();
     let exempt = encoding.exempt().len();
-    encoding.end_turn(provider, cache, exempt.saturating_sub(1))?;
+    encoding.end_turn(provider, exempt.saturating_sub(1))?;
     Ok((
         clauses,
         exempt,

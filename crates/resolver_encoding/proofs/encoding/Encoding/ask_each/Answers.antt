@@ -6,17 +6,16 @@ use Rattle.resolver_encoding.specs.Notes.{notes_in}
 use Rattle.resolver_clause_store.proofs.SetLemmas.{All-done}
 use Rattle.resolver_encoding.proofs.EncodingLemmas.{IsAskStep-same, IsAskStep-trans, IsAskStep-weaker}
 use Rattle.resolver_encoding.proofs.NoteLemmas.{All-grown_at, named_here}
-use Rattle.resolver_encoding.proofs.RoomLemmas.{KeepsRoom-of, KeepsRoom-same, KeepsRoom-trans}
+use Rattle.resolver_encoding.proofs.RoomLemmas.{KeepsTrue-same, KeepsTrue-trans}
 use Rattle.resolver_encoding.proofs.encoding.Encoding.ask_each.Goals as goal
 
 pub loop-version_set-init : goal.loop-version_set-init
 loop-version_set-init g c =
     let u = g.D.Interner.universe c.args.provider.now in
     record {
-      room = KeepsRoom-same _;
+      room = KeepsTrue-same _;
       step = IsAskStep-same u (IsNamedBy u c.args.named.now) (λ root. ⊤) (notes_in c.args.self.now);
       asked = All-nil (λ v. Contains (notes_in c.args.self.now).asked (u.version_set_name v));
-      is_true = c.requires.is_true;
     }
 
 pub loop-version_set-preserved : goal.loop-version_set-preserved
@@ -24,7 +23,7 @@ loop-version_set-preserved g c =
     let u = g.D.Interner.universe c.args.provider.now in
     let before = c.loop-version_set.invariant in
     record {
-      room = KeepsRoom-trans _ _ _ before.room (KeepsRoom-of _ _ c.ask.ensures.limits);
+      room = KeepsTrue-trans _ _ _ before.room c.ask.ensures.limits;
       step = IsAskStep-trans u (IsNamedBy u c.args.named.now) (λ root. ⊤) _ _ _ before.step
           (IsAskStep-weaker u (IsAsking c.version_set_name.result) (IsNamedBy u c.args.named.now) (λ call is.
           named_here u c.args.named.now c.loop-version_set.version_set-index _ _ call (omega arith) c.version_set_name.ensures is) (λ root. ⊤) (λ root.
@@ -32,7 +31,6 @@ loop-version_set-preserved g c =
       asked = All-grown_at (λ v. Contains c.loop-version_set.self.asked.keys (u.version_set_name v)) (λ v.
           Contains c.ask.new.self.asked.keys (u.version_set_name v)) c.args.named.now c.loop-version_set.version_set-index _ (λ y h.
           c.in_ok-ask.ensures.step.growth.asked _ h) (omega arith) before.asked (rw c.version_set_name.ensures at c.in_ok-ask.ensures.asked);
-      is_true = c.ask.ensures.is_true;
     }
 
 pub returns-clause-asked : goal.returns-clause-asked

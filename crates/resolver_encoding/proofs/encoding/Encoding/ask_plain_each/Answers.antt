@@ -4,16 +4,15 @@ use Rattle.resolver_encoding.specs.Called.{IsPlainlyNamed, IsPlainlyNamedByEach}
 use Rattle.resolver_encoding.specs.Notes.{notes_in}
 use Rattle.resolver_encoding.proofs.EncodingLemmas.{IsAskStep-same, IsAskStep-trans, IsAskStep-weaker}
 use Rattle.resolver_encoding.proofs.RequirementLemmas.{plainly_here}
-use Rattle.resolver_encoding.proofs.RoomLemmas.{KeepsRoom-same, KeepsRoom-trans}
+use Rattle.resolver_encoding.proofs.RoomLemmas.{KeepsTrue-same, KeepsTrue-trans}
 use Rattle.resolver_encoding.proofs.encoding.Encoding.ask_plain_each.Goals as goal
 
 pub loop-requirement-init : goal.loop-requirement-init
 loop-requirement-init g c =
     let u = g.D.Interner.universe c.args.provider.now in
     record {
-      room = KeepsRoom-same _;
+      room = KeepsTrue-same _;
       step = IsAskStep-same u (IsPlainlyNamedByEach u c.args.requirements.now) (λ root. ⊤) (notes_in c.args.self.now);
-      is_true = c.requires.is_true;
     }
 
 pub loop-requirement-preserved : goal.loop-requirement-preserved
@@ -24,9 +23,8 @@ loop-requirement-preserved g c =
     let before = c.loop-requirement.invariant in
     let Called = IsPlainlyNamedByEach u xs in
     record {
-      room = KeepsRoom-trans _ _ _ before.room c.ask_plain.ensures.room;
+      room = KeepsTrue-trans _ _ _ before.room c.ask_plain.ensures.room;
       step = IsAskStep-trans u Called (λ root. ⊤) _ _ _ before.step
           (IsAskStep-weaker u (IsPlainlyNamed u _) Called (λ n named. plainly_here u xs i _ n (omega arith) named) (λ root. ⊤) (λ root. ⊤) (λ root _.
           tt) _ _ c.in_ok-ask_plain.ensures.step);
-      is_true = c.ask_plain.ensures.is_true;
     }

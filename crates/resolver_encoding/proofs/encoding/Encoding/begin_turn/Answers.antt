@@ -3,6 +3,7 @@ use Rattle.std.proofs.Common.{◌∙◌, ◌+◌, ◌≡◌}
 use Rattle.std.proofs.lemmas.List.{length_push}
 use Rattle.resolver_clause_store.specs.SoftRun.{Exempts, asked_before, not_asked}
 use Rattle.resolver_encoding.specs.Notes.{notes_in}
+use Rattle.resolver_encoding.proofs.RoomLemmas.{KeepsRoom-same}
 use Rattle.resolver_encoding.proofs.TurnLemmas.{StaysRead-exempting, StaysRead-same}
 use Rattle.resolver_encoding.proofs.encoding.Encoding.begin_turn.Goals as goal
 
@@ -36,6 +37,7 @@ returns-then-is_among g c =
       few = omega arith;
       exempts = λ absent. asked_before (subst Asked c.solvable_name-name.ensures c.if-is_among.ensures);
       stays = StaysRead-same u (notes_in c.args.self.now);
+      limits = KeepsRoom-same _;
       memory = tt;
     }
 
@@ -47,6 +49,7 @@ returns-then-is_among-2 g c =
       few = omega arith;
       exempts = λ absent. absurd (absent c.if-is_among-2.ensures);
       stays = StaysRead-same u (notes_in c.args.self.now);
+      limits = KeepsRoom-same _;
       memory = tt;
     }
 

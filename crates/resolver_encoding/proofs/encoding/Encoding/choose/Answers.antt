@@ -6,6 +6,7 @@ use Rattle.resolver_encoding.specs.Called.{IsNamedBy, IsSeeingEach, IsWantedBy}
 use Rattle.resolver_encoding.specs.Notes.{notes_in}
 use Rattle.resolver_encoding.proofs.EncodingLemmas.{IsAskStep-trans, IsAskStep-weaker}
 use Rattle.resolver_encoding.proofs.RequirementLemmas.{listed_wanted, named_wanted}
+use Rattle.resolver_encoding.proofs.RoomLemmas.{KeepsTrue-of}
 use Rattle.resolver_encoding.proofs.encoding.Encoding.choose.Goals as goal
 
 pub returns : goal.returns
@@ -26,9 +27,8 @@ returns g c =
           (version_sets u c.args.requirement) c.in_ok-ask_named.ensures.asked;
       seen = let AllSeen : List g.row.S.Denot → Type 0 = λ list. All (Contains (notes_in c.see_all.new.self).seen) list in
           subst AllSeen c.deref.ensures.value c.in_ok-see_all.ensures.seen;
-      room = (let one = c.ask_named.ensures.room in let two = c.see_all.ensures.room in
-          record { variables = two.variables ∙ one.variables; clauses = two.clauses ∙ one.clauses });
-      is_true = c.choices_of.ensures.is_true;
+      room = (let one = c.ask_named.ensures.room in let two = KeepsTrue-of _ _ c.see_all.ensures.room in
+          record { variables = two.variables ∙ one.variables; clauses = two.clauses ∙ one.clauses; answers = λ _. two.answers c.choices_of.ensures.is_true });
       candidates = c.in_ok-choices.ensures.candidates;
       small = c.in_ok-choices.ensures.small;
       refusal = tt;

@@ -1,6 +1,5 @@
 use Rattle.std.proofs.Common.{sym, subst, All, Contains, List}
 use Rattle.std.specs.Prelude.{⊤}
-use Rattle.resolver_encoding.proofs.RoomLemmas.{KeepsRoom-trans}
 use Rattle.std.proofs.lemmas.List.Elements.{All-contains}
 use Rattle.resolver_clause_store.specs.Candidates.{version_sets}
 use Rattle.resolver_clause_store.specs.declared.VersionSetId.{VersionSetId}
@@ -9,6 +8,7 @@ use Rattle.resolver_encoding.specs.Encodings.{AddsKind, IsTrueUnder, idle}
 use Rattle.resolver_encoding.specs.Notes.{entry_of, notes_in}
 use Rattle.resolver_encoding.proofs.EncodingLemmas.{IsStep-trans, IsStep-weaker, clause_listed}
 use Rattle.resolver_encoding.proofs.NoteLemmas.{IsStep-kind}
+use Rattle.resolver_encoding.proofs.RoomLemmas.{KeepsTrue-of, KeepsTrue-trans}
 use Rattle.resolver_encoding.proofs.encoding.Encoding.encode_choices.Goals as goal
 
 pub returns-clause-step : goal.returns-clause-step
@@ -44,10 +44,7 @@ returns-clause-read g c =
     (clause_listed u (notes_in c.help_each.new.self) (notes_in c.add_with.new.self) _ (c.in_ok-add_with.ensures.added u c.requires.candidates))
 
 pub returns-clause-room : goal.returns-clause-room
-returns-clause-room g c = KeepsRoom-trans _ _ _ c.help_each.ensures.room c.add_with.ensures.room
-
-pub returns-clause-is_true : goal.returns-clause-is_true
-returns-clause-is_true g c = c.help_each.ensures.is_true
+returns-clause-room g c = KeepsTrue-trans _ _ _ c.help_each.ensures.room (KeepsTrue-of _ _ c.add_with.ensures.room)
 
 pub returns-clause-refusal : goal.returns-clause-refusal
 returns-clause-refusal g c = tt

@@ -1,6 +1,6 @@
 use Rattle.std.proofs.Common.{refl}
 use Rattle.std.specs.Prelude.{⊤}
-use Rattle.resolver_encoding.proofs.RoomLemmas.{KeepsRoom-trans}
+use Rattle.resolver_encoding.proofs.RoomLemmas.{KeepsTrue-trans}
 use Rattle.resolver_encoding.specs.Called.{IsWantedBy}
 use Rattle.resolver_encoding.specs.Encodings.{IsTrueUnder}
 use Rattle.resolver_encoding.specs.Notes.{entry_of}
@@ -22,11 +22,8 @@ returns-clause-read g c = has_direct c.args.entry.disjunct.items refl c.in_ok-en
 
 pub returns-clause-room : goal.returns-clause-room
 returns-clause-room g c =
-    let it = KeepsRoom-trans _ _ _ c.choose.ensures.room c.encode_choices.ensures.room in
-    record { variables = it.variables; clauses = it.clauses }
-
-pub returns-clause-is_true : goal.returns-clause-is_true
-returns-clause-is_true g c = c.encode_choices.ensures.is_true
+    let it = KeepsTrue-trans _ _ _ c.choose.ensures.room c.encode_choices.ensures.room in
+    record { variables = it.variables; clauses = it.clauses; answers = it.answers }
 
 pub returns-clause-refusal : goal.returns-clause-refusal
 returns-clause-refusal g c = tt
@@ -35,7 +32,7 @@ pub choose-requires : goal.choose-requires
 choose-requires g c = record { is_true = c.requires.is_true }
 
 pub encode_choices-requires-clause-is_true : goal.encode_choices-requires-clause-is_true
-encode_choices-requires-clause-is_true g c = c.choose.ensures.is_true
+encode_choices-requires-clause-is_true g c = c.choose.ensures.room.answers c.requires.is_true
 
 pub encode_choices-requires-clause-candidates : goal.encode_choices-requires-clause-candidates
 encode_choices-requires-clause-candidates g c = c.in_ok-choices.ensures.candidates

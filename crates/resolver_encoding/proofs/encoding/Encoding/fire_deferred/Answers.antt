@@ -2,7 +2,7 @@ use Rattle.std.proofs.Common.{arith, refl}
 use Rattle.std.proofs.lemmas.Option.{slice_get_read}
 use Rattle.resolver_encoding.specs.Notes.{notes_in}
 use Rattle.resolver_encoding.proofs.FiringLemmas.{AreQuiet-done, AreQuiet-more, HasFired-trans, IsFiring-trans, groups_kept}
-use Rattle.resolver_encoding.proofs.RoomLemmas.{KeepsRoom-trans}
+use Rattle.resolver_encoding.proofs.RoomLemmas.{KeepsTrue-trans}
 use Rattle.resolver_encoding.proofs.encoding.Encoding.fire_deferred.Goals as goal
 
 pub loop-place-preserved : goal.loop-place-preserved
@@ -14,8 +14,7 @@ loop-place-preserved g c =
     let two = notes_in c.loop-place.self in
     let three = notes_in c.fire_named.new.self in
     record {
-      room = KeepsRoom-trans _ _ _ before.room c.fire_named.ensures.room;
-      is_true = c.fire_named.ensures.is_true;
+      room = KeepsTrue-trans _ _ _ before.room c.fire_named.ensures.room;
       firing = IsFiring-trans u set one two three before.firing c.in_ok-any.ensures.firing;
       quiet = λ sound. AreQuiet-more u set two three c.args.from c.loop-place.place _ c.in_ok-any.ensures.firing
           (slice_get_read set _ c.loop-place.place c.index-as_slice-place.result refl (omega (arith, c.len-place-end.ensures.len))

@@ -1,4 +1,4 @@
-use Rattle.std.proofs.Common.{sym, subst, All, Contains, List}
+use Rattle.std.proofs.Common.{◌∙◌, sym, subst, All, Contains, List}
 use Rattle.std.specs.Prelude.{⊤}
 use Rattle.std.proofs.lemmas.List.Elements.{All-contains, Contains-push}
 use Rattle.resolver_clause_store.specs.Candidates.{matching}
@@ -9,8 +9,8 @@ use Rattle.resolver_encoding.specs.Encodings.{idle}
 use Rattle.resolver_encoding.specs.Notes.{notes_in}
 use Rattle.resolver_encoding.proofs.EncodingLemmas.{IsStep-trans}
 use Rattle.resolver_encoding.proofs.NoteLemmas.{IsStep-helped}
-use Rattle.resolver_encoding.proofs.RoomLemmas.{KeepsRoom-same}
 use Rattle.resolver_encoding.proofs.EncodingLemmas.{IsStep-same}
+use Rattle.resolver_encoding.proofs.RoomLemmas.{KeepsTrue-of, KeepsTrue-same}
 use Rattle.resolver_encoding.proofs.encoding.Encoding.help.Goals as goal
 
 pub append-requires-clause-absent : goal.append-requires-clause-absent
@@ -20,8 +20,7 @@ append-requires-clause-absent g c = let Has : List VersionSetId → Type 0 = λ 
 pub returns-then-is_among : goal.returns-then-is_among
 returns-then-is_among g c =
     record {
-      room = KeepsRoom-same _;
-      is_true = c.requires.is_true;
+      room = KeepsTrue-same _;
       step = IsStep-same (g.D.Interner.universe c.args.provider.now) idle (λ root. ⊤) (notes_in c.args.self.now);
       helped = c.if-is_among.ensures;
       refusal = tt;
@@ -33,14 +32,13 @@ returns g c =
       step = let u = g.D.Interner.universe c.args.provider.now in
           let v = c.args.version_set in
           let mid = notes_in c.imply_each.new.self in
-          let answer = c.matching.ensures u c.fetch_matching.ensures.is_true in
+          let answer = c.deref.ensures.value ∙ c.in_ok-candidates.ensures.items ∙ c.matching.ensures u c.fetch_matching.ensures.is_true in
           let AllFollow : List g.row.S.Denot → Type 0 = λ list. All (λ s. Contains mid.kinds (AnyOf (ConditionHelper v) s)) list in
           IsStep-trans u idle (λ root. ⊤) _ _ _ c.in_ok-imply_each.ensures.step
           (IsStep-helped u mid _ v (λ i. record mid { helped = c.in_ok-append.ensures.keys i }) (λ s h.
           All-contains (λ t. Contains mid.kinds (AnyOf (ConditionHelper v) t)) (matching u v) s (subst AllFollow answer c.in_ok-imply_each.ensures.follow) h));
       helped = let Has : List VersionSetId → Type 0 = λ list. Contains list c.args.version_set in
           subst Has (sym c.in_ok-append.ensures.keys) (Contains-push c.imply_each.new.self.helped.keys c.args.version_set);
-      room = (let it = c.imply_each.ensures.room in record { variables = it.variables; clauses = it.clauses });
-      is_true = c.fetch_matching.ensures.is_true;
+      room = (let it = KeepsTrue-of _ _ c.imply_each.ensures.room in record { variables = it.variables; clauses = it.clauses; answers = λ _. it.answers c.fetch_matching.ensures.is_true });
       refusal = tt;
     }

@@ -24,7 +24,7 @@ loop-version_set-preserved g c =
     record {
       origins = before.origins;
       still = before.still;
-      room = record { variables = before.room.variables; clauses = before.room.clauses };
+      room = record { variables = before.room.variables; clauses = before.room.clauses; cache = before.room.cache };
       indexed = IsIndexing-more u c.args.number c.args.disjunct.now c.loop-version_set.version_set-index _ (notes_in c.args.self.now)
           (notes_in c.loop-version_set.self) _ _ c.version_set_name-name.ensures (omega arith) before.indexed c.in_ok-add.ensures.added refl;
     }

@@ -38,6 +38,6 @@ returns g c =
           (IsStep-gated u mid _ r (λ i. record mid { gates = c.in_ok-append.ensures.keys i }) (clause_listed u old mid (GateRequires r) adds));
       gate = let Has : List Requirement → Type 0 = λ list. Contains list c.args.requirement in
           subst Has (sym c.in_ok-append.ensures.keys) (Contains-push c.add_with.new.self.gates.keys c.args.requirement);
-      room = (let it = c.add_with.ensures.room in record { variables = it.variables; clauses = it.clauses });
+      room = (let it = c.add_with.ensures.room in record { variables = it.variables; clauses = it.clauses; cache = it.cache });
       refusal = tt;
     }

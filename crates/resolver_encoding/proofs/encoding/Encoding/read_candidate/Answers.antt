@@ -3,7 +3,7 @@ use Rattle.resolver_clause_store.specs.Caches.{HasCandidates, hinted}
 use Rattle.resolver_encoding.proofs.HintLemmas.{unhinted}
 use Rattle.resolver_encoding.proofs.SoFarLemmas.{IsReadingOf-same}
 use Rattle.resolver_encoding.specs.Notes.{notes_in}
-use Rattle.resolver_encoding.proofs.RoomLemmas.{KeepsRoom-same}
+use Rattle.resolver_encoding.proofs.RoomLemmas.{KeepsTrue-same}
 use Rattle.resolver_encoding.proofs.encoding.Encoding.read_candidate.Goals as goal
 
 pub returns-then-is_out_of_reach : goal.returns-then-is_out_of_reach
@@ -14,8 +14,7 @@ returns-then-is_out_of_reach g c =
           absurd (unhinted (g.D.Interner.universe c.args.provider.now) c.args.hintless c.solvable_name-name.result c.args.candidate
           (c.is_out_of_reach.ensures c.if-is_out_of_reach.true) c.requires.hintless c.solvable_name-name.ensures covered);
       more = inl refl;
-      room = KeepsRoom-same _;
-      is_true = c.requires.is_true;
+      room = KeepsTrue-same _;
       hintless = c.requires.hintless;
       refusal = tt;
     }
@@ -26,8 +25,7 @@ returns-then-is_among g c =
       reading = IsReadingOf-same (g.D.Interner.universe c.args.provider.now) c.args.chosen.now.keys (λ s. c.args.candidate ≡ s) (notes_in c.args.self.now);
       here = λ covered. c.if-is_among.ensures;
       more = inl refl;
-      room = KeepsRoom-same _;
-      is_true = c.requires.is_true;
+      room = KeepsTrue-same _;
       hintless = c.requires.hintless;
       refusal = tt;
     }
@@ -41,8 +39,7 @@ returns-then-is_out_of_reach-2 g c =
           (c.is_out_of_reach-2.ensures c.if-is_out_of_reach-2.true) (c.without_hints-next.ensures (g.D.Interner.universe c.args.provider.now)
           c.fetch_candidates.ensures.is_true) c.solvable_name-name.ensures covered);
       more = inl refl;
-      room = KeepsRoom-same _;
-      is_true = c.fetch_candidates.ensures.is_true;
+      room = record { variables = refl; clauses = refl; answers = λ _. c.fetch_candidates.ensures.is_true };
       hintless = c.without_hints-next.ensures (g.D.Interner.universe c.args.provider.now) c.fetch_candidates.ensures.is_true;
       refusal = tt;
     }
@@ -54,8 +51,8 @@ returns g c =
           let Has : g.row.N.Denot → Type 0 = λ n. HasCandidates c.fetch_candidates.new.self n in
           c.in_ok-read_if_at_hand.ensures.here (hinted (subst Has c.solvable_name-name.ensures c.in_ok-fetch_candidates.ensures.has) covered);
       hintless = c.without_hints-next.ensures (g.D.Interner.universe c.args.provider.now) c.fetch_candidates.ensures.is_true;
-      room = c.read_if_at_hand.ensures.room;
-      is_true = c.read_if_at_hand.ensures.is_true;
+      room = (let it = c.read_if_at_hand.ensures.room in
+          record { variables = it.variables; clauses = it.clauses; answers = λ _. it.answers c.fetch_candidates.ensures.is_true });
       reading = c.in_ok-read_if_at_hand.ensures.reading;
       more = c.in_ok-read_if_at_hand.ensures.more;
       refusal = tt;

@@ -8,20 +8,19 @@ use Rattle.resolver_encoding.proofs.EncodingLemmas.{Extends-trans, Extends-withi
 use Rattle.resolver_encoding.proofs.HintLemmas.{candidates_same, candidates_seen, hinted_none, hinted_one, hinted_trans}
 use Rattle.resolver_encoding.proofs.NoteLemmas.{All-grown}
 use Rattle.resolver_encoding.proofs.SoFarLemmas.{IsMoreOrSame-trans}
-use Rattle.resolver_encoding.proofs.RoomLemmas.{KeepsRoom-same, KeepsRoom-trans}
+use Rattle.resolver_encoding.proofs.RoomLemmas.{KeepsTrue-same, KeepsTrue-trans}
 use Rattle.resolver_encoding.proofs.encoding.Encoding.read_candidates.Goals as goal
 
 pub loop-candidate-init : goal.loop-candidate-init
 loop-candidate-init g c =
     let u = g.D.Interner.universe c.args.provider.now in
     record {
-      room = KeepsRoom-same _;
+      room = KeepsTrue-same _;
       half = c.requires.half;
       reading = hinted_none u c.args.chosen.now.keys c.args.place (notes_in c.args.self.now);
       read = All-nil (λ s. IsHinted u s → Contains (notes_in c.args.self.now).read s);
       more = inl refl;
       hintless = tt;
-      is_true = c.requires.is_true;
     }
 
 pub read_candidate-requires-clause-seen : goal.read_candidate-requires-clause-seen
@@ -56,7 +55,7 @@ loop-candidate-preserved g c =
     (Extends-trans one.table two.table three.table first.growth.table reading.growth.table)
     (Extends-trans one.requirements two.requirements three.requirements first.growth.requirements reading.growth.requirements) seen reading in
     record {
-      room = KeepsRoom-trans _ _ _ before.room c.read_candidate.ensures.room;
+      room = KeepsTrue-trans _ _ _ before.room c.read_candidate.ensures.room;
       half = record { root = before.half.root; half = reading.keeps before.half.root before.half.half };
       reading = hinted_trans u set half.root c.args.place one two three half.half before.reading now;
       read = All-grown (λ t. IsHinted u t → Contains two.read t) (λ t.
@@ -64,7 +63,6 @@ loop-candidate-preserved g c =
           Extends-within two.read three.read reading.read t (h hinted)) (omega arith) c.candidate-item.is before.read c.in_ok-hintless.ensures.here;
       more = IsMoreOrSame-trans _ _ _ before.more c.in_ok-hintless.ensures.more;
       hintless = c.in_ok-hintless.ensures.hintless;
-      is_true = c.read_candidate.ensures.is_true;
     }
 
 pub returns-clause-here : goal.returns-clause-here

@@ -6,7 +6,7 @@ use Rattle.resolver_encoding.specs.declared.progress.Progress.{Progress}
 use Rattle.resolver_encoding.proofs.HintLemmas.{asked_on, longer, more_on, progress_then, so_far_on}
 use Rattle.resolver_encoding.proofs.ReachLemmas.{near_after}
 use Rattle.resolver_encoding.proofs.SoFarLemmas.{all_asked, firing_half, lawful_solvables, progress, read_more, so_far}
-use Rattle.resolver_encoding.proofs.RoomLemmas.{KeepsRoom-trans}
+use Rattle.resolver_encoding.proofs.RoomLemmas.{KeepsTrue-trans}
 use Rattle.resolver_encoding.proofs.encoding.Encoding.read_chosen.Goals as goal
 
 pub read_each-requires-clause-half : goal.read_each-requires-clause-half
@@ -112,9 +112,8 @@ returns g c =
           (progress_then old fired new c.in_ok-read.read c.in_ok-fired.fired c.in_ok-hinted.hinted
           (progress u set old mid fired c.in_ok-read.read c.in_ok-fired.fired c.in_ok-read.ensures.any_new c.in_ok-fired.ensures.fired firing)
           c.in_ok-hinted.ensures.any_new);
-      is_true = c.read_hinted.ensures.is_true;
       fit = c.in_ok-hinted.ensures.fit;
-      limits = (let it = KeepsRoom-trans _ _ _ c.read_each.ensures.room (KeepsRoom-trans _ _ _ c.fire_deferred.ensures.room c.read_hinted.ensures.room) in
-          record { variables = it.variables; clauses = it.clauses });
+      limits = (let it = KeepsTrue-trans _ _ _ c.read_each.ensures.room (KeepsTrue-trans _ _ _ c.fire_deferred.ensures.room c.read_hinted.ensures.room) in
+          record { variables = it.variables; clauses = it.clauses; answers = it.answers });
       refusal = tt;
     }

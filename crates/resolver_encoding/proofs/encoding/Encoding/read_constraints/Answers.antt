@@ -9,19 +9,18 @@ use Rattle.resolver_clause_store.proofs.SetLemmas.{All-done}
 use Rattle.resolver_encoding.proofs.EncodingLemmas.{IsAskStep-same, IsAskStep-trans, IsAskStep-weaker, IsEncodingOf-asked, IsEncodingOf-weaker}
 use Rattle.resolver_encoding.proofs.NoteLemmas.{All-grown_at, named_here}
 use Rattle.resolver_encoding.proofs.ReadLemmas.{IsConstraintRead-within}
-use Rattle.resolver_encoding.proofs.RoomLemmas.{KeepsRoom-same, KeepsRoom-trans}
+use Rattle.resolver_encoding.proofs.RoomLemmas.{KeepsTrue-same, KeepsTrue-trans}
 use Rattle.resolver_encoding.proofs.encoding.Encoding.read_constraints.Goals as goal
 
 pub loop-version_set-init : goal.loop-version_set-init
 loop-version_set-init g c =
     let u = g.D.Interner.universe c.args.provider.now in
     record {
-      room = KeepsRoom-same _;
+      room = KeepsTrue-same _;
       step = IsAskStep-same u (IsNamedBy u c.args.constraints.now) (λ root. All (λ v. HasConstraint u c.args.by v root) c.args.constraints.now)
           (notes_in c.args.self.now);
       read = All-nil (IsConstraintRead u (notes_in c.args.self.now).kinds c.args.by);
       asked = All-nil (λ v. Contains (notes_in c.args.self.now).asked (u.version_set_name v));
-      is_true = c.requires.is_true;
     }
 
 pub read_constraint-requires-clause-encoding : goal.read_constraint-requires-clause-encoding
@@ -43,7 +42,7 @@ loop-version_set-preserved g c =
     let before = c.loop-version_set.invariant in
     let step = c.in_ok-read_constraint.ensures.step in
     record {
-      room = KeepsRoom-trans _ _ _ before.room c.read_constraint.ensures.room;
+      room = KeepsTrue-trans _ _ _ before.room c.read_constraint.ensures.room;
       step = IsAskStep-trans u (IsNamedBy u xs) (λ root. All (λ v. HasConstraint u c.args.by v root) c.args.constraints.now) _ _ _ before.step
           (IsAskStep-weaker u (IsAsking (u.version_set_name (get_or xs i _))) (IsNamedBy u xs) (λ call is. named_here u xs i _ _ call below refl is)
           (HasConstraint u c.args.by _) (λ root. All (λ v. HasConstraint u c.args.by v root) c.args.constraints.now) (λ root all.
@@ -54,7 +53,6 @@ loop-version_set-preserved g c =
       asked = All-grown_at (λ v. Contains (notes_in c.loop-version_set.self).asked (u.version_set_name v)) (λ v.
           Contains (notes_in c.read_constraint.new.self).asked (u.version_set_name v)) xs i _ (λ v h.
           step.growth.asked _ h) below before.asked c.in_ok-read_constraint.ensures.asked;
-      is_true = c.read_constraint.ensures.is_true;
     }
 
 pub returns-clause-read : goal.returns-clause-read

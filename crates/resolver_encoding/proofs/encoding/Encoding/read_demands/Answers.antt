@@ -12,7 +12,7 @@ use Rattle.resolver_encoding.proofs.EncodingLemmas.{IsAskStep-trans, IsAskStep-w
 use Rattle.resolver_encoding.proofs.EncodingLemmas.{IsReadStep-of, IsReadStep-trans, IsReadStep-weaker}
 use Rattle.resolver_encoding.proofs.ReadLemmas.{IsReadRequirement-within}
 use Rattle.resolver_encoding.proofs.RequirementLemmas.{plainly_called}
-use Rattle.resolver_encoding.proofs.RoomLemmas.{KeepsRoom-trans}
+use Rattle.resolver_encoding.proofs.RoomLemmas.{KeepsTrue-trans}
 use Rattle.resolver_encoding.proofs.encoding.Encoding.read_demands.Goals as goal
 
 pub read_requirements-requires-clause-encoding : goal.read_requirements-requires-clause-encoding
@@ -88,8 +88,7 @@ returns g c =
             constraints = c.in_ok-read_constraints.ensures.read;
             packages = c.in_ok-read_constraints.ensures.asked;
           };
-      is_true = c.read_constraints.ensures.is_true;
-      room = KeepsRoom-trans _ _ _ c.ask_plain_each.ensures.room (KeepsRoom-trans _ _ _ c.ask_each.ensures.room
-          (KeepsRoom-trans _ _ _ c.read_requirements.ensures.room c.read_constraints.ensures.room));
+      room = KeepsTrue-trans _ _ _ c.ask_plain_each.ensures.room (KeepsTrue-trans _ _ _ c.ask_each.ensures.room
+          (KeepsTrue-trans _ _ _ c.read_requirements.ensures.room c.read_constraints.ensures.room));
       refusal = tt;
     }

@@ -13,7 +13,7 @@ use Rattle.resolver_encoding.proofs.EncodingLemmas.{Extends-within, IsReadStep-s
 use Rattle.resolver_encoding.proofs.NoteLemmas.{All-grown}
 use Rattle.resolver_encoding.proofs.RequirementLemmas.{IsDisjunctRead-grown, disjunct_implies, items_of, requirement_read}
 use Rattle.resolver_clause_store.proofs.ListLemmas.{Contains-map}
-use Rattle.resolver_encoding.proofs.RoomLemmas.{KeepsRoom-same, KeepsRoom-trans}
+use Rattle.resolver_encoding.proofs.RoomLemmas.{KeepsTrue-same, KeepsTrue-trans}
 use Rattle.resolver_encoding.proofs.encoding.Encoding.read_direct.Goals as goal
 
 pub loop-list-init : goal.loop-list-init
@@ -21,11 +21,10 @@ loop-list-init g c =
     let u = g.D.Interner.universe c.args.provider.now in
     let by = c.args.by in
     record {
-      room = KeepsRoom-same _;
+      room = KeepsTrue-same _;
       step = IsReadStep-same u (IsUnmet u c.args.chosen.now.keys by) (IsCalledBy u c.args.chosen.now.keys c.args.requirement)
           (HasRequirement u by c.args.requirement) (notes_in c.args.self.now);
       read = All-nil (λ list. IsDisjunctRead (notes_in c.args.self.now) by c.args.requirement.requirement list.items);
-      is_true = c.requires.is_true;
     }
 
 pub read_disjunct-requires-clause-once : goal.read_disjunct-requires-clause-once
@@ -49,7 +48,7 @@ loop-list-preserved g c =
     disjunct_implies u r.condition (map items_of lists) list.items e.disjunct
     (rw (sym c.deref-list-items.ensures.value) at c.in_ok-disjuncts.ensures.are) listed same in
     record {
-      room = KeepsRoom-trans _ _ _ before.room c.read_disjunct.ensures.room;
+      room = KeepsTrue-trans _ _ _ before.room c.read_disjunct.ensures.room;
       step = IsReadStep-trans u (IsUnmet u set by) (IsCalledBy u set r) (HasRequirement u by r) _ _ _ before.step
           (IsReadStep-weaker u (IsUnmet u set by) (IsCalledIfMet u set e) (IsCalledBy u set r)
           (λ n w. (active_by u set (map (matching u) e.disjunct) r.condition implies w.0, w.1))
@@ -58,7 +57,6 @@ loop-list-preserved g c =
           lists c.loop-list.list-index list
           (λ l h. IsDisjunctRead-grown u _ _ step.growth.kinds (λ x k. Extends-within _ _ step.deferred _ k) by r.requirement l.items h)
           (omega arith) c.list-item.is before.read (record { kept = e.disjunct; same = same; either = c.in_ok-read_disjunct.ensures.read });
-      is_true = c.read_disjunct.ensures.is_true;
     }
 
 pub returns-clause-read : goal.returns-clause-read

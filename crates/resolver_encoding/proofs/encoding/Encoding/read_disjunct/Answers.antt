@@ -6,6 +6,7 @@ use Rattle.resolver_encoding.specs.Notes.{entry_of}
 use Rattle.resolver_encoding.proofs.EncodingLemmas.{IsAskStep-weaker, IsReadStep-of}
 use Rattle.resolver_encoding.proofs.FiringLemmas.{IsReadStep-deferral, deferral_left}
 use Rattle.resolver_encoding.proofs.RequirementLemmas.{fails_if, holds_if}
+use Rattle.resolver_encoding.proofs.RoomLemmas.{KeepsTrue-of}
 use Rattle.resolver_encoding.proofs.encoding.Encoding.read_disjunct.Goals as goal
 
 pub returns-then-met : goal.returns-then-met
@@ -20,8 +21,8 @@ returns-then-met g c =
           (IsAskStep-weaker u (IsWantedBy u e.requirement) (IsCalledIfMet u set e) (λ n named. (met, named)) Premise Premise (λ root h. h) _ _
           c.in_ok-encode_disjunct.ensures.step);
       read = inl c.in_ok-encode_disjunct.ensures.read;
-      room = c.encode_disjunct.ensures.room;
-      is_true = c.encode_disjunct.ensures.is_true;
+      room = (let it = c.encode_disjunct.ensures.room in
+          record { variables = it.variables; clauses = it.clauses; answers = λ _. it.answers c.is_met.ensures.is_true });
       refusal = tt;
     }
 
@@ -35,7 +36,7 @@ returns g c =
           IsReadStep-deferral u (IsUnmet u set e.by) (IsCalledIfMet u set e) (IsTrueUnder u e) e _ _ c.in_ok-defer.ensures.deferred
           (record { of = refl; never = unmet }) (λ root h. record { is_true = h; once = c.requires.once });
       read = inr (deferral_left (g.D.Interner.universe c.args.provider.now) _ _ _ c.in_ok-defer.ensures.deferred);
-      room = c.defer.ensures.room;
-      is_true = c.is_met.ensures.is_true;
+      room = (let it = KeepsTrue-of _ _ c.defer.ensures.room in
+          record { variables = it.variables; clauses = it.clauses; answers = λ _. it.answers c.is_met.ensures.is_true });
       refusal = tt;
     }

@@ -7,19 +7,18 @@ use Rattle.resolver_encoding.proofs.EncodingLemmas.{Contains-kept, Extends-withi
 use Rattle.resolver_encoding.proofs.SoFarLemmas.{AreEach-done, AreEach-more, AreEach-none, IsMoreOrSame-trans, IsReadingOf-same}
 use Rattle.resolver_encoding.proofs.SoFarLemmas.{IsReadingOf-trans, IsReadingOf-weaker, no_more_read}
 use Rattle.resolver_encoding.proofs.ReadLemmas.{seen_fit}
-use Rattle.resolver_encoding.proofs.RoomLemmas.{KeepsRoom-same, KeepsRoom-trans}
+use Rattle.resolver_encoding.proofs.RoomLemmas.{KeepsTrue-same, KeepsTrue-trans}
 use Rattle.resolver_encoding.proofs.encoding.Encoding.read_each.Goals as goal
 
 pub loop-place-init : goal.loop-place-init
 loop-place-init g c = let u = g.D.Interner.universe c.args.provider.now in
     let set = c.args.chosen.now.keys in
     record {
-      room = KeepsRoom-same _;
+      room = KeepsTrue-same _;
       half = c.requires.half;
       reading = IsReadingOf-same u set (Contains set) (notes_in c.args.self.now);
       read = AreEach-none (Contains (notes_in c.args.self.now).read) set c.args.from;
       more = inl refl;
-      is_true = c.requires.is_true;
     }
 
 pub read_new-requires-clause-encoding : goal.read_new-requires-clause-encoding
@@ -44,7 +43,7 @@ loop-place-preserved g c = let u = g.D.Interner.universe c.args.provider.now in
     let Among : g.row.S.Denot → Type 0 = λ t. Contains set t in
     let inside : Contains set s = (c.loop-place.place, omega arith, sym (subst At c.as_slice.ensures.keys c.index-as_slice-place.is)) in
     record {
-      room = KeepsRoom-trans _ _ _ before.room c.read_new.ensures.room;
+      room = KeepsTrue-trans _ _ _ before.room c.read_new.ensures.room;
       half = record { root = before.half.root; half = reading.keeps before.half.root before.half.half };
       reading = IsReadingOf-trans u set (Contains set) _ _ _ before.reading
           (IsReadingOf-weaker u set (λ t. s ≡ t) (Contains set) (λ t same. subst Among same inside) _ _ reading);
@@ -52,7 +51,6 @@ loop-place-preserved g c = let u = g.D.Interner.universe c.args.provider.now in
           (Contains (notes_in c.read_new.new.self).read) set c.args.from c.loop-place.place s (λ t h. Extends-within _ _ reading.read t h) (omega arith)
           (subst At c.as_slice.ensures.keys c.index-as_slice-place.is) before.read c.in_ok-read_new.ensures.here;
       more = IsMoreOrSame-trans _ _ _ before.more c.in_ok-read_new.ensures.more;
-      is_true = c.read_new.ensures.is_true;
     }
 
 pub returns-then-before-len-clause-here : goal.returns-then-before-len-clause-here
@@ -72,7 +70,6 @@ returns g c =
           (notes_in c.loop-place.self).origins c.len.ensures.unique known;
       any_new = no_more_read _ _ c.loop-place.invariant.more (omega (arith, c.len.ensures.len, c.len-before.ensures.len));
       room = c.loop-place.invariant.room;
-      is_true = c.loop-place.invariant.is_true;
       reading = c.loop-place.invariant.reading;
       refusal = tt;
     }

@@ -4,7 +4,7 @@ use Rattle.resolver_encoding.specs.Hints.{AreHintsReadTo}
 use Rattle.resolver_encoding.specs.Notes.{notes_in}
 use Rattle.resolver_encoding.specs.SoFar.{HasRead}
 use Rattle.resolver_encoding.proofs.HintLemmas.{HasRead-then, hinted_later, hinted_none, hinted_trans, hints_grown, hints_joined, hints_none, longer}
-use Rattle.resolver_encoding.proofs.RoomLemmas.{KeepsRoom-same, KeepsRoom-trans}
+use Rattle.resolver_encoding.proofs.RoomLemmas.{KeepsTrue-same, KeepsTrue-trans}
 use Rattle.resolver_encoding.proofs.encoding.Encoding.read_hinted.Goals as goal
 
 pub waves-init : goal.waves-init
@@ -12,14 +12,13 @@ waves-init g c =
     let u = g.D.Interner.universe c.args.provider.now in
     let notes = notes_in c.args.self.now in
     record {
-      room = KeepsRoom-same _;
+      room = KeepsTrue-same _;
       half = c.requires.half;
       reading = hinted_none u c.args.chosen.now.keys c.args.from notes;
       forward = omega arith;
       within = c.requires.within;
       read = hints_none u c.args.from notes;
       any_new = refl;
-      is_true = c.requires.is_true;
     }
 
 pub waves-preserved : goal.waves-preserved
@@ -37,7 +36,7 @@ waves-preserved g c =
     let now : HasRead two three true = subst Was c.if-not-branch.false found.any_new in
     let more : length two.requirements ≤ length three.requirements = longer two.requirements three.requirements reading.growth.requirements in
     record {
-      room = KeepsRoom-trans _ _ _ before.room c.read_hinted_each.ensures.room;
+      room = KeepsTrue-trans _ _ _ before.room c.read_hinted_each.ensures.room;
       half = record { root = before.half.root; half = reading.keeps before.half.root before.half.half };
       reading = hinted_trans u set c.requires.half.root c.args.from one two three c.requires.half.half before.reading
           (hinted_later u set c.args.from c.waves.place before.forward two three found.reading);
@@ -48,7 +47,6 @@ waves-preserved g c =
           c.waves.place before.within before.read)
           found.here;
       any_new = HasRead-then one two three c.waves.any before.any_new now;
-      is_true = found.is_true;
     }
 
 pub waves-smaller : goal.waves-smaller

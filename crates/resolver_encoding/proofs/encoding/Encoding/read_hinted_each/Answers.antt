@@ -3,19 +3,18 @@ use Rattle.resolver_encoding.specs.Notes.{notes_in}
 use Rattle.resolver_encoding.proofs.HintLemmas.{hinted_later, hinted_none, hinted_trans, hints_at, hints_grown, hints_joined, hints_none, hints_until, longer}
 use Rattle.resolver_encoding.proofs.ReadLemmas.{seen_fit}
 use Rattle.resolver_encoding.proofs.SoFarLemmas.{IsMoreOrSame-trans, no_more_read}
-use Rattle.resolver_encoding.proofs.RoomLemmas.{KeepsRoom-same, KeepsRoom-trans}
+use Rattle.resolver_encoding.proofs.RoomLemmas.{KeepsTrue-same, KeepsTrue-trans}
 use Rattle.resolver_encoding.proofs.encoding.Encoding.read_hinted_each.Goals as goal
 
 pub loop-place-init : goal.loop-place-init
 loop-place-init g c =
     let u = g.D.Interner.universe c.args.provider.now in
     record {
-      room = KeepsRoom-same _;
+      room = KeepsTrue-same _;
       half = c.requires.half;
       reading = hinted_none u c.args.chosen.now.keys c.args.from (notes_in c.args.self.now);
       read = hints_none u c.args.from (notes_in c.args.self.now);
       more = inl refl;
-      is_true = c.requires.is_true;
     }
 
 pub read_hinted_at-requires-clause-within : goal.read_hinted_at-requires-clause-within
@@ -38,7 +37,7 @@ loop-place-preserved g c =
     let half = before.half in
     let more : length one.requirements ≤ length two.requirements = longer one.requirements two.requirements before.reading.reading.growth.requirements in
     record {
-      room = KeepsRoom-trans _ _ _ before.room c.read_hinted_at.ensures.room;
+      room = KeepsTrue-trans _ _ _ before.room c.read_hinted_at.ensures.room;
       half = record { root = half.root; half = reading.keeps half.root half.half };
       reading = hinted_trans u set c.requires.half.root c.args.from one two three c.requires.half.half before.reading
           (hinted_later u set c.args.from c.loop-place.place (omega arith) two three here);
@@ -47,7 +46,6 @@ loop-place-preserved g c =
           (omega (arith, more, c.requires.within)) before.read)
           (hints_at u c.loop-place.place three c.in_ok-read_hinted_at.ensures.here);
       more = IsMoreOrSame-trans _ _ _ before.more c.in_ok-read_hinted_at.ensures.more;
-      is_true = c.read_hinted_at.ensures.is_true;
     }
 
 pub returns-then-before-len-clause-here : goal.returns-then-before-len-clause-here

@@ -1,7 +1,7 @@
 use Rattle.std.proofs.Common.{◌≡◌, inl, refl}
 use Rattle.resolver_encoding.specs.Notes.{notes_in}
 use Rattle.resolver_encoding.proofs.SoFarLemmas.{IsReadingOf-same}
-use Rattle.resolver_encoding.proofs.RoomLemmas.{KeepsRoom-same}
+use Rattle.resolver_encoding.proofs.RoomLemmas.{KeepsTrue-same}
 use Rattle.resolver_encoding.proofs.encoding.Encoding.read_if_at_hand.Goals as goal
 
 pub read_new-requires-clause-encoding : goal.read_new-requires-clause-encoding
@@ -15,8 +15,7 @@ returns-then-not-are_dependencies_available_for g c =
     record {
       reading = IsReadingOf-same (g.D.Interner.universe c.args.provider.now) c.args.chosen.now.keys (λ s. c.args.candidate ≡ s) (notes_in c.args.self.now);
       more = inl refl;
-      room = KeepsRoom-same _;
-      is_true = c.requires.is_true;
+      room = KeepsTrue-same _;
       here = λ is. let wrong = c.if-not-are_dependencies_available_for.ensures.1 is in absurd cc;
       only = λ _. refl;
       refusal = tt;
@@ -26,7 +25,6 @@ pub returns : goal.returns
 returns g c =
     record {
       room = c.read_new.ensures.room;
-      is_true = c.read_new.ensures.is_true;
       reading = c.in_ok-read_new.ensures.reading;
       here = λ _. c.in_ok-read_new.ensures.here;
       only = λ no. absurd (no (c.if-not-are_dependencies_available_for.ensures.0 refl));

@@ -1,6 +1,6 @@
 use Rattle.std.proofs.Common.{subst, sym, List, Contains}
 use Rattle.std.proofs.lemmas.List.Elements.{Contains-push}
-use Rattle.resolver_encoding.proofs.RoomLemmas.{KeepsRoom-same}
+use Rattle.resolver_encoding.proofs.RoomLemmas.{KeepsTrue-same}
 use Rattle.std.proofs.Common.{◌≡◌, inl, inr, refl}
 use Rattle.resolver_encoding.specs.Notes.{notes_in}
 use Rattle.resolver_encoding.proofs.SoFarLemmas.{HasRead-read, IsReadingOf-read, IsReadingOf-same}
@@ -11,9 +11,8 @@ returns-then-is_among g c =
     record {
       reading = IsReadingOf-same (g.D.Interner.universe c.args.provider.now) c.args.chosen.now.keys (λ s. c.args.solvable ≡ s) (notes_in c.args.self.now);
       more = inl refl;
-      is_true = c.requires.is_true;
       here = c.if-is_among.ensures;
-      room = KeepsRoom-same _;
+      room = KeepsTrue-same _;
       refusal = tt;
     }
 
@@ -30,9 +29,8 @@ returns g c =
           record mid { read = c.in_ok-append.ensures.keys i }));
       here = let Has : List g.row.S.Denot → Type 0 = λ list. Contains list c.args.solvable in
           subst Has (sym c.in_ok-append.ensures.keys) (Contains-push c.read_solvable.new.self.read.keys c.args.solvable);
-      is_true = c.read_solvable.ensures.is_true;
       room = let it = c.read_solvable.ensures.room in
-          record { variables = it.variables; clauses = it.clauses };
+          record { variables = it.variables; clauses = it.clauses; answers = it.answers };
       refusal = tt;
     }
 

@@ -8,7 +8,7 @@ use Rattle.resolver_encoding.specs.Notes.{notes_in}
 use Rattle.resolver_encoding.specs.ReadState.{has_direct}
 use Rattle.resolver_encoding.proofs.EncodingLemmas.{IsAskStep-of, IsAskStep-trans, IsAskStep-weaker, IsEncodingOf-asked, IsEncodingOf-step, IsStep-weaker}
 use Rattle.resolver_encoding.proofs.RequirementLemmas.{gate_read}
-use Rattle.resolver_encoding.proofs.RoomLemmas.{KeepsRoom-trans}
+use Rattle.resolver_encoding.proofs.RoomLemmas.{KeepsRoom-trans, KeepsTrue-of, KeepsTrue-trans}
 use Rattle.resolver_encoding.proofs.encoding.Encoding.read_plain.Goals as goal
 
 pub returns-then-is_among : goal.returns-then-is_among
@@ -22,8 +22,7 @@ returns-then-is_among g c =
           let step = c.in_ok-imply_gate.ensures.step in
           gate_read u Premise (notes_in c.args.self.now) (notes_in c.imply_gate.new.self) c.args.requirer c.args.requirement c.requires.encoding step
           (step.gates _ c.if-is_among.ensures) c.in_ok-imply_gate.ensures.implied;
-      room = c.imply_gate.ensures.room;
-      is_true = c.requires.is_true;
+      room = KeepsTrue-of _ _ c.imply_gate.ensures.room;
       refusal = tt;
     }
 
@@ -41,9 +40,8 @@ returns-then-len-lt-GATE_THRESHOLD g c =
           (IsStep-weaker u idle (IsTrueUnder u (record { by = by; disjunct = _; requirement = r })) Premise (λ root asks.
           (record { condition = None; requirement = r }, asks, refl, ap (map (matching u)) c.new-none.ensures.items)) _ _ c.in_ok-encode_choices.ensures.step));
       read = has_direct _ c.new-none.ensures.items c.in_ok-encode_choices.ensures.read;
-      room = (let it = KeepsRoom-trans _ _ _ c.choose.ensures.room c.encode_choices.ensures.room in
-          record { variables = it.variables; clauses = it.clauses });
-      is_true = c.encode_choices.ensures.is_true;
+      room = (let it = KeepsTrue-trans _ _ _ c.choose.ensures.room c.encode_choices.ensures.room in
+          record { variables = it.variables; clauses = it.clauses; answers = it.answers });
       refusal = tt;
     }
 
@@ -68,9 +66,8 @@ returns g c =
           let step = c.in_ok-imply_gate-2.ensures.step in
           gate_read u Premise (notes_in c.make_gate.new.self) (notes_in c.imply_gate-2.new.self) c.args.requirer r before step
           (step.gates _ c.in_ok-make_gate.ensures.gate) c.in_ok-imply_gate-2.ensures.implied;
-      room = (let it = KeepsRoom-trans _ _ _ c.choose.ensures.room (KeepsRoom-trans _ _ _ c.make_gate.ensures.room c.imply_gate-2.ensures.room) in
-          record { variables = it.variables; clauses = it.clauses });
-      is_true = c.choose.ensures.is_true;
+      room = (let it = KeepsTrue-trans _ _ _ c.choose.ensures.room (KeepsTrue-of _ _ (KeepsRoom-trans _ _ _ c.make_gate.ensures.room c.imply_gate-2.ensures.room)) in
+          record { variables = it.variables; clauses = it.clauses; answers = it.answers });
       refusal = tt;
     }
 

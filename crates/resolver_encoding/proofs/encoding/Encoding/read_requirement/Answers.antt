@@ -13,7 +13,6 @@ returns-in_ok-read_plain-in-Some g c =
           plain_has (g.D.Interner.universe c.args.provider.now) notes.kinds
           (IsLeft notes) c.args.by c.in-Some.requirer c.args.requirement c.in-Some.ensures.0 c.in_ok-read_plain-in-Some.ensures.read;
       room = c.read_plain.ensures.room;
-      is_true = c.read_plain.ensures.is_true;
       refusal = tt;
     }
 
@@ -21,7 +20,6 @@ pub returns-in_ok-read_direct-in-None : goal.returns-in_ok-read_direct-in-None
 returns-in_ok-read_direct-in-None g c =
     record {
       room = c.read_direct.ensures.room;
-      is_true = c.read_direct.ensures.is_true;
       refusal = tt;
       step = c.in_ok-read_direct-in-None.ensures.step;
       read = c.in_ok-read_direct-in-None.ensures.read;

@@ -11,7 +11,7 @@ use Rattle.resolver_encoding.proofs.EncodingLemmas.{IsReadStep-weaker}
 use Rattle.resolver_encoding.proofs.NoteLemmas.{All-grown_at}
 use Rattle.resolver_encoding.proofs.ReadLemmas.{IsReadRequirement-within}
 use Rattle.resolver_encoding.proofs.RequirementLemmas.{called_here}
-use Rattle.resolver_encoding.proofs.RoomLemmas.{KeepsRoom-same, KeepsRoom-trans}
+use Rattle.resolver_encoding.proofs.RoomLemmas.{KeepsTrue-same, KeepsTrue-trans}
 use Rattle.resolver_encoding.proofs.encoding.Encoding.read_requirements.Goals as goal
 
 pub loop-requirement-init : goal.loop-requirement-init
@@ -20,11 +20,10 @@ loop-requirement-init g c =
     let set = c.args.chosen.now.keys in
     let old = notes_in c.args.self.now in
     record {
-      room = KeepsRoom-same _;
+      room = KeepsTrue-same _;
       step = IsReadStep-same u (IsUnmet u set c.args.by) (IsCalledByEach u set c.args.requirements.now) (λ root.
           All (λ r. HasRequirement u c.args.by r root) c.args.requirements.now) old;
       read = All-nil (IsReadRequirement u old.kinds (IsLeft old) c.args.by);
-      is_true = c.requires.is_true;
     }
 
 pub read_requirement-requires-clause-encoding : goal.read_requirement-requires-clause-encoding
@@ -53,14 +52,13 @@ loop-requirement-preserved g c =
     let new = notes_in c.read_requirement.new.self in
     let Premise : Demands → Type 0 = λ root. All (λ r. HasRequirement u by r root) xs in
     record {
-      room = KeepsRoom-trans _ _ _ before.room c.read_requirement.ensures.room;
+      room = KeepsTrue-trans _ _ _ before.room c.read_requirement.ensures.room;
       step = IsReadStep-trans u (IsUnmet u set by) (IsCalledByEach u set xs) Premise _ _ _ before.step
           (IsReadStep-weaker u (IsUnmet u set by) (IsCalledBy u set _) (IsCalledByEach u set xs) (λ n called. called_here u set xs i _ n below called)
           (HasRequirement u by _) Premise (λ root all. All-get_or (λ v. HasRequirement u by v root) xs i _ below all) _ _ step);
       read = All-grown_at (IsReadRequirement u mid.kinds (IsLeft mid) by) (IsReadRequirement u new.kinds (IsLeft new) by) xs i _ (λ v h.
           IsReadRequirement-within u _ _ step.growth.kinds (IsLeft mid) (IsLeft new) (λ e k.
           Extends-within _ _ step.deferred _ k) by v h) below before.read c.in_ok-read_requirement.ensures.read;
-      is_true = c.read_requirement.ensures.is_true;
     }
 
 pub returns-clause-read : goal.returns-clause-read

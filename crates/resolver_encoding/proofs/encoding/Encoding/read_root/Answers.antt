@@ -11,7 +11,7 @@ use Rattle.resolver_encoding.proofs.HintLemmas.{asked_on, so_far_on}
 use Rattle.resolver_encoding.proofs.ReachLemmas.{root_near}
 use Rattle.resolver_encoding.proofs.SoFarLemmas.{root_asked, root_so_far}
 use Rattle.resolver_clause_store.proofs.ListLemmas.{Contains-none as none_in}
-use Rattle.resolver_encoding.proofs.RoomLemmas.{KeepsRoom-trans}
+use Rattle.resolver_encoding.proofs.RoomLemmas.{KeepsTrue-of, KeepsTrue-trans}
 use Rattle.resolver_encoding.proofs.encoding.Encoding.read_root.Goals as goal
 
 pub read_demands-requires-clause-encoding : goal.read_demands-requires-clause-encoding
@@ -76,9 +76,8 @@ returns g c =
           ⊎_elim (λ (was : Contains (notes_in c.read_demands.new.self).read s). absurd (none_in s (subst Has none was))) (λ listed. listed)
           (c.in_ok-read_hinted.ensures.reading.reading.reads s h);
       exempt = c.in_ok-read_hinted.ensures.reading.reading.growth.exempt ∙ c.in_ok-read_demands.ensures.step.growth.exempt ∙ c.in_ok-install_root.ensures.exempt;
-      is_true = c.read_hinted.ensures.is_true;
       hinted = c.in_ok-read_hinted.ensures.here;
-      limits = (let it = KeepsRoom-trans _ _ _ c.install_root.ensures.room (KeepsRoom-trans _ _ _ c.read_demands.ensures.room c.read_hinted.ensures.room) in
-          record { variables = it.variables; clauses = it.clauses });
+      limits = (let it = KeepsTrue-trans _ _ _ (KeepsTrue-of _ _ c.install_root.ensures.room) (KeepsTrue-trans _ _ _ c.read_demands.ensures.room c.read_hinted.ensures.room) in
+          record { variables = it.variables; clauses = it.clauses; answers = it.answers });
       refusal = tt;
     }

@@ -9,6 +9,7 @@ use Rattle.resolver_encoding.specs.Called.{Call, IsDemanded}
 use Rattle.resolver_encoding.specs.Encodings.{IsUnmet}
 use Rattle.resolver_encoding.specs.Notes.{notes_in}
 use Rattle.resolver_encoding.proofs.EncodingLemmas.{IsAskStep-of, IsEncodingOf-weaker, IsReadStep-of, IsReadStep-weaker}
+use Rattle.resolver_encoding.proofs.RoomLemmas.{KeepsTrue-of}
 use Rattle.resolver_encoding.proofs.encoding.Encoding.read_solvable.Goals as goal
 
 demands_known : (d : Demands) (needs : Needs) → known d ≡ needs → demands_of needs ≡ d
@@ -41,8 +42,8 @@ returns-in_ok-forbid_unknown-in-Unknown g c =
           let Demanded = IsDemanded u set (demands_of (u.needs c.args.solvable)) in
           IsReadStep-of u (IsUnmet u set (Solvable c.args.solvable)) Demanded (λ root. ⊤) _ _
           (IsAskStep-of u Demanded (λ root. ⊤) _ _ c.in_ok-forbid_unknown-in-Unknown.ensures.step);
-      is_true = c.fetch_dependencies.ensures.is_true;
-      room = c.forbid_unknown.ensures.room;
+      room = (let it = KeepsTrue-of _ _ c.forbid_unknown.ensures.room in
+          record { variables = it.variables; clauses = it.clauses; answers = λ _. it.answers c.fetch_dependencies.ensures.is_true });
       refusal = tt;
       read = let u = g.D.Interner.universe c.args.provider.now in
           let answer = rw c.in-Unknown.is at (c.dependencies.ensures u c.fetch_dependencies.ensures.is_true) in
@@ -67,8 +68,8 @@ returns-in_ok-read_demands-in-Known g c =
           (λ n h.
           subst (Demanded n) (sym same) h)
           (λ root. demands_by u root (Solvable c.args.solvable) ≡ demands) (λ root. ⊤) (λ root _. same) _ _ c.in_ok-read_demands-in-Known.ensures.step;
-      is_true = c.read_demands.ensures.is_true;
-      room = c.read_demands.ensures.room;
+      room = (let it = c.read_demands.ensures.room in
+          record { variables = it.variables; clauses = it.clauses; answers = λ _. it.answers c.fetch_dependencies.ensures.is_true });
       refusal = tt;
       read = let u = g.D.Interner.universe c.args.provider.now in
           let answer = rw c.in-Known.is at (c.dependencies.ensures u c.fetch_dependencies.ensures.is_true) in

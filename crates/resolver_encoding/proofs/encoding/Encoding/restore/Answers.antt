@@ -4,10 +4,9 @@ use Rattle.resolver_encoding.specs.Encodings.{owing_for}
 use Rattle.resolver_encoding.specs.Notes.{notes_in}
 use Rattle.resolver_encoding.proofs.EncodingLemmas.{IsStep-trans}
 use Rattle.resolver_encoding.proofs.TurnLemmas.{AddsPlainly-trans, IsRestored-found, IsRestored-unasked}
-use Rattle.resolver_encoding.proofs.RoomLemmas.{KeepsRoom-same}
-use Rattle.resolver_encoding.proofs.RoomLemmas.{KeepsRoom-trans}
 use Rattle.resolver_encoding.proofs.EncodingLemmas.{IsStep-same}
 use Rattle.resolver_encoding.proofs.TurnLemmas.{AddsPlainly-same}
+use Rattle.resolver_encoding.proofs.RoomLemmas.{KeepsRoom-trans, KeepsTrue-of, KeepsTrue-same}
 use Rattle.resolver_encoding.proofs.encoding.Encoding.restore.Goals as goal
 
 pub restore_exclusions-requires-clause-asked : goal.restore_exclusions-requires-clause-asked
@@ -20,8 +19,7 @@ returns-then-not-is_among g c =
       restored = let u = g.D.Interner.universe c.args.provider.now in
           let Asked : g.row.N.Denot → Type 0 = λ n. Contains (notes_in c.args.self.now).asked n → ⊥ in
           IsRestored-unasked u c.args.solvable (notes_in c.args.self.now) (subst Asked c.solvable_name-name.ensures c.if-not-is_among.ensures);
-      room = KeepsRoom-same _;
-      is_true = c.requires.is_true;
+      room = KeepsTrue-same _;
       step = IsStep-same (g.D.Interner.universe c.args.provider.now) (owing_for c.args.solvable) (λ root. ⊤) (notes_in c.args.self.now);
       plain = AddsPlainly-same (g.D.Interner.universe c.args.provider.now) (notes_in c.args.self.now);
       refusal = tt;
@@ -39,10 +37,10 @@ returns g c =
           IsRestored-found u c.args.solvable (notes_in c.args.self.now) (notes_in c.restore_lock.new.self)
           (notes_in c.restore_exclusions.new.self) c.solvable_name-name.result c.solvable_name-name.ensures
           c.in_ok-restore_exclusions.ensures.step.growth.kinds c.in_ok-restore_lock.ensures.step.growth.exempt c.in_ok-restore_exclusions.ensures.step.growth.exempt _ _ _
-          (c.deref.ensures.value ∙ ap (λ p. p.listed) answer) (ap (λ p. p.locked) answer) (c.deref-2.ensures.value ∙ ap (λ p. p.excluded) answer)
+          (c.deref-3.ensures.value ∙ c.in_ok-listed.ensures.items ∙ c.deref.ensures.value ∙ ap (λ p. p.listed) answer) (ap (λ p. p.locked) answer) (c.deref-4.ensures.value ∙ c.in_ok-excluded.ensures.items ∙ c.deref-2.ensures.value ∙ ap (λ p. p.excluded) answer)
           c.in_ok-restore_lock.ensures.restored c.in_ok-restore_exclusions.ensures.restored;
-      room = KeepsRoom-trans _ _ _ c.restore_lock.ensures.room c.restore_exclusions.ensures.room;
-      is_true = c.fetch_candidates.ensures.is_true;
+      room = (let it = KeepsTrue-of _ _ (KeepsRoom-trans _ _ _ c.restore_lock.ensures.room c.restore_exclusions.ensures.room) in
+          record { variables = it.variables; clauses = it.clauses; answers = λ _. it.answers c.fetch_candidates.ensures.is_true });
       refusal = tt;
     }
 
@@ -61,7 +59,7 @@ restore_lock-requires-clause-asked g c = c.if-not-is_among.ensures
 pub restore_lock-requires-clause-listed : goal.restore_lock-requires-clause-listed
 restore_lock-requires-clause-listed g c =
     (let answer = c.candidates-package.ensures (g.D.Interner.universe c.args.provider.now) c.fetch_candidates.ensures.is_true in
-    c.deref.ensures.value ∙ ap (λ p. p.listed) answer)
+    c.deref-3.ensures.value ∙ c.in_ok-listed.ensures.items ∙ c.deref.ensures.value ∙ ap (λ p. p.listed) answer)
 
 pub restore_lock-requires-clause-locked : goal.restore_lock-requires-clause-locked
 restore_lock-requires-clause-locked g c =
@@ -70,4 +68,4 @@ restore_lock-requires-clause-locked g c =
 pub restore_exclusions-requires-clause-excluded : goal.restore_exclusions-requires-clause-excluded
 restore_exclusions-requires-clause-excluded g c =
     (let answer = c.candidates-package.ensures (g.D.Interner.universe c.args.provider.now) c.fetch_candidates.ensures.is_true in
-    c.deref-2.ensures.value ∙ ap (λ p. p.excluded) answer)
+    c.deref-4.ensures.value ∙ c.in_ok-excluded.ensures.items ∙ c.deref-2.ensures.value ∙ ap (λ p. p.excluded) answer)

@@ -12,7 +12,7 @@ use Rattle.resolver_encoding.proofs.encoding.Encoding.see_all.Goals as goal
 
 pub loop-candidate-init : goal.loop-candidate-init
 loop-candidate-init g c = record {
-  room = record { variables = c.make_variables.ensures.limit; clauses = refl };
+  room = record { variables = c.make_variables.ensures.limit; clauses = refl; cache = refl };
   step = made_step (g.D.Interner.universe c.args.provider.now) c.args.candidates.now (notes_in c.args.self.now) _ _ _ c.make_variables.ensures.grows
       c.make_variables.ensures.limit refl;
   seen = All-nil (Contains (notes_in c.args.self.now).seen);

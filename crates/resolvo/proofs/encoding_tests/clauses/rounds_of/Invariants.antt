@@ -1,12 +1,12 @@
 use Rattle.std.proofs.Common.{[]}
 use Rattle.resolver_clause_store.specs.Caches.{IsTrueCache}
-use Rattle.resolver_encoding.specs.Notes.{notes_in}
+use Rattle.resolver_encoding.specs.Notes.{cache_in, notes_in}
 use Rattle.resolver_encoding.specs.SoFar.{IsReading}
 use Rattle.resolvo.specs.TestProvider.{test_universe}
 use Rattle.resolvo.proofs.encoding_tests.clauses.rounds_of.Given as goal
 
 abbrev pub invariant-loop-given : goal.invariant-loop-given
 invariant-loop-given l = record {
-  is_true : IsTrueCache (test_universe l.provider.requirements.items l.provider.constraints.items) l.cache;
+  is_true : IsTrueCache (test_universe l.provider.requirements.items l.provider.constraints.items) (cache_in l.encoding);
   reading : IsReading (test_universe l.provider.requirements.items l.provider.constraints.items) [] (notes_in l.encoding);
 }

@@ -6,7 +6,6 @@ use Rattle.resolvo.proofs.rounds.Rounds.all_rounds.Goals as goal
 pub returns-in-Some : goal.returns-in-Some
 returns-in-Some g c =
     record {
-      is_true = c.in_ok-found.ensures.is_true;
       rounds = c.in_ok-found.ensures.rounds;
       keeps = goes_trans (g.D.Interner.universe c.args.provider.now) c.args.self.now c.rounds.self c.rounds_until_read.new.self c.requires.rounds.variables
           c.rounds.invariant.keeps c.in_ok-found.ensures.keeps;
@@ -17,7 +16,6 @@ returns-in-Some g c =
 
 pub rounds-preserved : goal.rounds-preserved
 rounds-preserved g c = record {
-  is_true = c.in_ok-found.ensures.is_true;
   rounds = c.in_ok-found.ensures.rounds;
   keeps = goes_trans (g.D.Interner.universe c.args.provider.now) c.args.self.now c.rounds.self c.rounds_until_read.new.self c.requires.rounds.variables
       c.rounds.invariant.keeps c.in_ok-found.ensures.keeps;
@@ -29,7 +27,6 @@ rounds-init g c =
     let u = g.D.Interner.universe c.args.provider.now in
     let self = c.args.self.now in
     record {
-      is_true = c.requires.is_true;
       rounds = c.requires.rounds;
       keeps = goes_begin u self;
       room = room_same self;
@@ -39,4 +36,4 @@ pub rounds-smaller : goal.rounds-smaller
 rounds-smaller g c =
     let read = rw c.in-None.is at c.in_ok-found.ensures.read in
     let fit = rw c.in-None.is at c.in_ok-found.ensures.fit in
-    omega (arith, read, fit, c.in_ok-found.ensures.limits.notes.variables)
+    omega (arith, read, fit, c.in_ok-found.ensures.limits.variables)

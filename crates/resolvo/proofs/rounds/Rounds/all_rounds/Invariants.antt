@@ -1,14 +1,12 @@
 use Rattle.std.proofs.Common.{length, ◌-◌}
-use Rattle.resolver_clause_store.specs.Caches.{IsTrueCache}
 use Rattle.resolvo.specs.RoundStates.{AreRounds, GoesOn, KeepsRoundLimits, notes_of}
 use Rattle.resolvo.proofs.rounds.Rounds.all_rounds.Given as goal
 
 abbrev pub invariant-rounds : goal.invariant-rounds
 invariant-rounds g l = record {
-  is_true : IsTrueCache (g.D.Interner.universe l.provider) l.cache;
   rounds : AreRounds (g.D.Interner.universe l.provider) l.self;
   keeps : GoesOn (g.D.Interner.universe l.provider) l.initial.self l.self;
-  room : KeepsRoundLimits l.initial.self l.self;
+  room : KeepsRoundLimits (g.D.Interner.universe l.provider) l.initial.self l.self;
 }
 
 abbrev pub decreases-rounds : goal.decreases-rounds

@@ -5,7 +5,7 @@ use Rattle.resolver_encoding.specs.Turns.{AsksOnly}
 use Rattle.resolver_encoding.specs.declared.encoding.Encoding.{Encoding}
 use Rattle.resolvo.specs.RoundStates.{notes_of}
 use Rattle.resolvo.proofs.SoftLemmas.{asking_adds, rounds_added, standing_asked, standing_loaded, still_added}
-use Rattle.resolvo.proofs.RoundLemmas.{room_trans}
+use Rattle.resolvo.proofs.RoundLemmas.{room_of, room_trans}
 use Rattle.resolvo.proofs.rounds.Rounds.ask.Goals as goal
 
 pub load-requires : goal.load-requires
@@ -13,14 +13,13 @@ load-requires g c =
     let u = g.D.Interner.universe c.args.provider.now in
     let old = c.args.self.now in
     record {
-      rounds = rounds_added u old c.ask.new.self c.requires.rest.rounds
+      rounds = rounds_added u old c.ask.new.self c.requires.rest.rounds (c.ask.ensures.limits.answers c.requires.rest.rounds.answers)
           (asking_adds u c.version_set_name-name.result (notes_of old) (notes_in c.ask.new.self) c.in_ok-ask.ensures.alone);
     }
 
 pub returns : goal.returns
 returns g c =
     record {
-      is_true = c.ask.ensures.is_true;
       rest = record {
         rounds = c.in_ok-load.ensures.rounds;
         still = c.in_ok-load.ensures.still
@@ -41,10 +40,10 @@ returns g c =
             standing = λ root taken refused seeds packages own b.
                 let Own : g.row.N.Denot → Type 0 = λ m. Contains packages m in
                 standing_loaded u root taken refused seeds packages (record old { encoding = e }) c.load.new.self
-                (rounds_added u old e c.requires.rest.rounds adds).variables c.in_ok-load.ensures.same c.in_ok-load.ensures.turn
+                (rounds_added u old e c.requires.rest.rounds (c.ask.ensures.limits.answers c.requires.rest.rounds.answers) adds).variables c.in_ok-load.ensures.same c.in_ok-load.ensures.turn
                 (standing_asked u root taken refused seeds packages old e c.requires.rest.rounds adds alone.exempt b n
                 (subst Own (sym c.version_set_name-name.ensures) own) alone);
           };
-      limits = room_trans c.args.self.now (record c.args.self.now { encoding = c.ask.new.self }) c.load.new.self (record { notes = c.ask.ensures.limits; clauses = refl; learnt = refl }) c.load.ensures.limits;
+      limits = room_trans c.args.self.now (record c.args.self.now { encoding = c.ask.new.self }) c.load.new.self (room_of _ _ c.ask.ensures.limits refl refl) c.load.ensures.limits;
       refusal = tt;
     }

@@ -5,23 +5,20 @@ use Rattle.resolver_clause_store.specs.declared.Reason.TheVariants.{Assumed}
 use Rattle.resolvo.specs.ClauseSearches.{trail_of}
 use Rattle.resolvo.proofs.SoftLemmas.{accepted, just_assumed, not_accepted, rest_held, rounds_assumed, still_assumed, turned_held}
 use Rattle.resolver_encoding.proofs.SoFarLemmas.{lawful_solvables}
-use Rattle.resolver_encoding.specs.Encodings.{Notes, KeepsLimits}
+use Rattle.resolver_encoding.proofs.RoomLemmas.{KeepsTrue-of}
 use Rattle.std.proofs.lemmas.Option.{slice_get_within}
 use Rattle.resolver_clause_store.specs.declared.Origin.TheVariants.{Solvable as SolvableOrigin}
 use Rattle.resolvo.specs.RoundStates.{notes_of}
-use Rattle.resolvo.proofs.RoundLemmas.{room_trans}
+use Rattle.resolvo.proofs.RoundLemmas.{room_of, room_trans}
 use Rattle.resolvo.proofs.rounds.Rounds.attempt.Goals as goal
 
--- the limits stay when a turn begins
-limits_begun : {N S : Type 0} (old new : Notes N S) (exempt : List S) → new ≡ record old { exempt = exempt } → KeepsLimits old new
-limits_begun {N} {S} old new exempt only =
-    record { variables = ap (λ (n : Notes N S). n.variable_limit) only; clauses = ap (λ (n : Notes N S). n.clause_limit) only }
-
-pub is_answered-requires-clause-rounds : goal.is_answered-requires-clause-rounds
-is_answered-requires-clause-rounds g c =
-    rounds_assumed (g.D.Interner.universe c.args.provider.now) c.args.self.now c.begin_turn.new.self c.assume.new.self c.args.variable c.requires.rest.rounds
-    c.begin_turn.ensures.only c.in_ok-begin_turn.ensures.stays.so_far
-    c.in_ok-assume.ensures.consistent c.in_ok-assume.ensures.loaded c.in_ok-assume.ensures.gains.size c.in_ok-assume.ensures.kept
+pub is_answered-requires : goal.is_answered-requires
+is_answered-requires g c = record {
+  rounds = rounds_assumed (g.D.Interner.universe c.args.provider.now) c.args.self.now c.begin_turn.new.self c.assume.new.self c.args.variable c.requires.rest.rounds
+      c.begin_turn.ensures.only c.in_ok-begin_turn.ensures.stays.so_far
+      c.in_ok-assume.ensures.consistent c.in_ok-assume.ensures.loaded c.in_ok-assume.ensures.gains.size c.in_ok-assume.ensures.kept
+      ((KeepsTrue-of {u = g.D.Interner.universe c.args.provider.now} _ _ c.begin_turn.ensures.limits).answers c.requires.rest.rounds.answers);
+}
 
 pub returns-then-answered : goal.returns-then-answered
 returns-then-answered g c =
@@ -29,7 +26,6 @@ returns-then-answered g c =
     let Gained : Literal → Type 0 = λ l. Gains before (trail_of c.assume.new.self) l (level_of before + 1) Assumed in
     let gains = subst Gained c.new.ensures c.in_ok-assume.ensures.gains in
     record {
-      is_true = c.is_answered.ensures.is_true;
       rest = rest_held (g.D.Interner.universe c.args.provider.now) c.is_answered.new.self c.hold.new.self c.hold.ensures.trail c.hold.ensures.count
           c.hold.ensures.held c.in_ok-answered.ensures.rounds c.hold.ensures.consistent c.hold.ensures.loaded
           (c.in_ok-answered.ensures.answer c.if-answered.true);
@@ -43,8 +39,8 @@ returns-then-answered g c =
           gains c.in_ok-assume.ensures.held b
           c.is_answered.new.self c.in_ok-answered.ensures.keeps (c.in_ok-answered.ensures.answer c.if-answered.true));
       limits = let room = room_trans c.args.self.now (record c.args.self.now { encoding = c.begin_turn.new.self; search = c.assume.new.self }) c.is_answered.new.self
-          (record { notes = limits_begun _ _ _ c.begin_turn.ensures.only; clauses = refl; learnt = refl }) c.is_answered.ensures.limits in
-          record { notes = room.notes; clauses = room.clauses; learnt = room.learnt };
+          (room_of _ _ (KeepsTrue-of _ _ c.begin_turn.ensures.limits) refl refl) c.is_answered.ensures.limits in
+          record { variables = room.variables; kinds = room.kinds; answers = room.answers; clauses = room.clauses; learnt = room.learnt };
       refusal = tt;
     }
 
@@ -63,7 +59,6 @@ returns g c =
     let Gained : Literal → Type 0 = λ l. Gains before (trail_of c.assume.new.self) l (level_of before + 1) Assumed in
     let gains = subst Gained c.new.ensures c.in_ok-assume.ensures.gains in
     record {
-      is_true = c.refuse.ensures.is_true;
       rest = c.in_ok-refuse.ensures.rest;
       turned = λ seen root taken refused seeds packages seed b.
           let u = g.D.Interner.universe c.args.provider.now in
@@ -80,7 +75,7 @@ returns g c =
           (ap length c.exempt-exempt.ensures) c.in_ok-answered.ensures.rounds c.refuse.new.self c.in_ok-refuse.ensures.refused c.in_ok-refuse.ensures.rest.still;
       limits = room_trans c.args.self.now c.is_answered.new.self c.refuse.new.self
           (room_trans c.args.self.now (record c.args.self.now { encoding = c.begin_turn.new.self; search = c.assume.new.self }) c.is_answered.new.self
-          (record { notes = limits_begun _ _ _ c.begin_turn.ensures.only; clauses = refl; learnt = refl }) c.is_answered.ensures.limits) c.refuse.ensures.limits;
+          (room_of _ _ (KeepsTrue-of _ _ c.begin_turn.ensures.limits) refl refl) c.is_answered.ensures.limits) c.refuse.ensures.limits;
       refusal = tt;
     }
 

@@ -21,6 +21,6 @@ returns g c =
       turn = turn-trans c.args.self.now.search c.load.new.self.search c.decide.new.self c.in_ok-load.ensures.turn same.turn;
       made = c.in_ok-is_made.ensures.made;
       none = λ none. inr (c.in_ok-is_made.ensures.none none);
-      limits = record { notes = loaded.notes; clauses = loaded.clauses; learnt = loaded.learnt };
+      limits = record { variables = loaded.variables; kinds = loaded.kinds; answers = loaded.answers; clauses = loaded.clauses; learnt = loaded.learnt };
       refusal = tt;
     }

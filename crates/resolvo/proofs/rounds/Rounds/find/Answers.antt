@@ -22,7 +22,6 @@ soft_turns-requires-clause-rest g c =
 pub returns-in_ok-soft_turns-in-Answer : goal.returns-in_ok-soft_turns-in-Answer
 returns-in_ok-soft_turns-in-Answer g c =
     record {
-      is_true = c.soft_turns.ensures.is_true;
       done = let u = g.D.Interner.universe c.args.provider.now in
           let root = root_demands c.args.problem.now in
           let rest = c.all_rounds.new.self in
@@ -36,14 +35,13 @@ returns-in_ok-soft_turns-in-Answer g c =
       table = c.in_ok-soft_turns-in-Answer.ensures.rounds.reading.so_far.half.encoding.encoded.count;
       limits = let first = room_trans c.args.self.now c.begin.new.self c.all_rounds.new.self c.begin.ensures.limits c.all_rounds.ensures.limits in
           room_trans c.args.self.now (record c.all_rounds.new.self { search = c.hold.new.self }) c.soft_turns.new.self
-          (record { notes = first.notes; clauses = first.clauses; learnt = first.learnt }) c.soft_turns.ensures.limits;
+          (record { variables = first.variables; kinds = first.kinds; answers = first.answers; clauses = first.clauses; learnt = first.learnt }) c.soft_turns.ensures.limits;
       refusal = tt;
     }
 
 pub returns-in-Contradiction : goal.returns-in-Contradiction
 returns-in-Contradiction g c =
     record {
-      is_true = c.all_rounds.ensures.is_true;
       done = let u = g.D.Interner.universe c.args.provider.now in
           let root = root_demands c.args.problem.now in
           let rest = c.all_rounds.new.self in
@@ -58,7 +56,6 @@ returns-in-Contradiction g c =
 pub returns-in-Refused : goal.returns-in-Refused
 returns-in-Refused g c =
     record {
-      is_true = c.all_rounds.ensures.is_true;
       done = let u = g.D.Interner.universe c.args.provider.now in
           let rest = c.all_rounds.new.self in
           let found : IsFound u rest c.in_ok-all_rounds.field-0 = c.in_ok-all_rounds.ensures.found in

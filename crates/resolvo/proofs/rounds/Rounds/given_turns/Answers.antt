@@ -5,7 +5,6 @@ use Rattle.resolvo.proofs.rounds.Rounds.given_turns.Goals as goal
 pub returns-in_ok-solvable_turns-in-Some : goal.returns-in_ok-solvable_turns-in-Some
 returns-in_ok-solvable_turns-in-Some g c =
     record {
-      is_true = c.solvable_turns.ensures.is_true;
       rest = c.in_ok-solvable_turns-in-Some.ensures.rest;
       between = λ root b.
           let w = c.in_ok-solvable_turns-in-Some.ensures.between root b in

@@ -16,9 +16,6 @@ returns-clause-unanswered g c =
       | in-Refused w ↦ rw w.result-is (λ off. unanswered_refused new (rw w.in-Refused.is at found))
     ]
 
-pub returns-clause-is_true : goal.returns-clause-is_true
-returns-clause-is_true g c = c.all_rounds.ensures.is_true
-
 pub returns-clause-limits : goal.returns-clause-limits
 returns-clause-limits g c = c.all_rounds.ensures.limits
 

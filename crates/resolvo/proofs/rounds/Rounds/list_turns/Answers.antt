@@ -7,7 +7,6 @@ use Rattle.resolvo.proofs.rounds.Rounds.list_turns.Goals as goal
 
 pub loop-requirement-init : goal.loop-requirement-init
 loop-requirement-init g c = record {
-  is_true = c.requires.is_true;
   rest = c.requires.rest;
   room = room_same c.args.self.now;
   between = λ root done b.
@@ -22,7 +21,6 @@ loop-requirement-preserved g c =
     let r = c.requirement-item.result in
     let before = c.loop-requirement.invariant in
     record {
-      is_true = c.soft_turn.ensures.is_true;
       rest = c.in_ok-soft_turn.ensures.rest;
       room = room_trans c.args.self.now c.loop-requirement.self c.soft_turn.new.self before.room c.soft_turn.ensures.limits;
       between = λ root done b.
@@ -36,7 +34,6 @@ loop-requirement-preserved g c =
 pub returns : goal.returns
 returns g c =
     record {
-      is_true = c.loop-requirement.invariant.is_true;
       rounds = c.loop-requirement.invariant.rest.rounds;
       between = λ root done b.
           let all = c.args.list.now in
@@ -46,3 +43,6 @@ returns g c =
       limits = c.loop-requirement.invariant.room;
       refusal = tt;
     }
+
+pub returns-in_err-soft_turn-clause-limits : goal.returns-in_err-soft_turn-clause-limits
+returns-in_err-soft_turn-clause-limits g c = room_trans _ c.loop-requirement.self _ c.loop-requirement.invariant.room c.soft_turn.ensures.limits

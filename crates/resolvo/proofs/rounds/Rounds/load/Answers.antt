@@ -43,6 +43,6 @@ returns g c =
           still_loaded (g.D.Interner.universe c.args.provider.now) it c.load.new.self
           (rounds_owned (g.D.Interner.universe c.args.provider.now) c.args.self.now c.follow.new.self c.requires.rounds) c.in_ok-load.ensures.consistent
           c.in_ok-load.ensures.set c.in_ok-load.ensures.bookmarked c.in_ok-load.ensures.turn (still_owned c.args.self.now c.follow.new.self still);
-      limits = record { notes = record { variables = refl; clauses = refl }; clauses = refl; learnt = refl };
+      limits = record { variables = refl; kinds = refl; answers = λ known. known; clauses = refl; learnt = refl };
       memory = tt;
     }

@@ -1,10 +1,10 @@
-use Rattle.std.proofs.Common.{length, subst, sym, ◌≤◌, ◌∙◌, All, Contains, List}
+use Rattle.std.proofs.Common.{length, refl, subst, sym, ◌≤◌, ◌∙◌, All, Contains, List}
 use Rattle.resolver_clause_store.specs.declared.Origin.TheVariants.{Solvable}
 use Rattle.resolver_encoding.specs.Notes.{notes_in}
 use Rattle.resolver_encoding.specs.declared.encoding.Encoding.{Encoding}
 use Rattle.resolvo.specs.ClauseSearches.{trail_of}
 use Rattle.resolvo.specs.RoundStates.{notes_of}
-use Rattle.resolvo.proofs.RoundLemmas.{chosen_known, read_first, read_more, reading_first}
+use Rattle.resolvo.proofs.RoundLemmas.{chosen_known, read_first, read_more, reading_first, room_of, room_trans}
 use Rattle.resolvo.proofs.GoingLemmas.{drawn_or_assumed, goes_read}
 use Rattle.resolver_encoding.proofs.ReachLemmas.{positives_seen}
 use Rattle.resolver_encoding.specs.SoFar.{IsProgress}
@@ -25,11 +25,11 @@ read_chosen-requires-clause-known g c =
 pub returns : goal.returns
 returns g c =
     record {
-      is_true = c.read_chosen.ensures.is_true;
       rounds = read_more
           (g.D.Interner.universe c.args.provider.now) c.args.self.now c.follow.new.self c.in_ok-from.from c.solvables.result.now.keys c.read_chosen.new.self
           c.requires.rounds c.in_ok-from.ensures.following c.solvables.ensures c.in_ok-progress.ensures.more
-          c.in_ok-progress.ensures.read;
+          c.in_ok-progress.ensures.read
+          (c.read_chosen.ensures.limits.answers ((c.follow.ensures.limits (g.D.Interner.universe c.args.provider.now)).answers c.requires.rounds.answers));
       keeps = let old = c.args.self.now in
           goes_read (g.D.Interner.universe c.args.provider.now) old c.follow.new.self c.in_ok-from.from c.solvables.result.now.keys c.read_chosen.new.self
           c.requires.loaded c.in_ok-from.ensures.following c.in_ok-from.ensures.followed c.solvables.ensures
@@ -45,13 +45,7 @@ returns g c =
           IsProgress (notes_in e) (notes_in c.read_chosen.new.self) c.in_ok-progress.progress in
           subst Progress c.in_ok-from.ensures.following.encoding c.in_ok-progress.ensures.progress;
       fit = c.in_ok-progress.ensures.fit;
-      limits = let mid = c.follow.ensures.limits in
-          let kept = c.read_chosen.ensures.limits in
-          record {
-            notes = record { variables = kept.variables ∙ mid.notes.variables; clauses = kept.clauses ∙ mid.notes.clauses };
-            clauses = mid.clauses;
-            learnt = mid.learnt;
-          };
+      limits = room_trans _ c.follow.new.self _ (c.follow.ensures.limits _) (room_of _ _ c.read_chosen.ensures.limits refl refl);
       refusal = tt;
     }
 
@@ -68,3 +62,10 @@ pub read_chosen-requires-clause-within : goal.read_chosen-requires-clause-within
 read_chosen-requires-clause-within g c =
     let Within : List g.row.S.Denot → Type 0 = λ list. c.in_ok-from.from ≤ length list in
     subst Within (sym c.solvables.ensures) c.in_ok-from.ensures.following.within
+
+pub returns-in_err-from-clause-limits : goal.returns-in_err-from-clause-limits
+returns-in_err-from-clause-limits g c = c.follow.ensures.limits (g.D.Interner.universe c.args.provider.now)
+
+pub returns-in_err-progress-clause-limits : goal.returns-in_err-progress-clause-limits
+returns-in_err-progress-clause-limits g c =
+    room_trans _ c.follow.new.self _ (c.follow.ensures.limits _) (room_of _ _ c.read_chosen.ensures.limits refl refl)

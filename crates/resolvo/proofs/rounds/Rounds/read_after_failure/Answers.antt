@@ -12,7 +12,6 @@ returns g c =
     let u = g.D.Interner.universe c.args.provider.now in
     let mid = c.decide_after_failure.new.self in
     record {
-      is_true = c.requires.is_true;
       rounds = c.in_ok-decide_after_failure.ensures.rounds;
       keeps = goes_searched u c.args.self.now mid c.decide_after_failure.ensures.same c.in_ok-decide_after_failure.ensures.turn;
       progress = ap (λ (e : Encoding g.row.N.Denot g.row.S.Denot). notes_in e) c.decide_after_failure.ensures.same.encoding;
@@ -29,7 +28,6 @@ returns-then-branch g c =
     let goes = goes_searched u old mid c.decide_after_failure.ensures.same c.in_ok-decide_after_failure.ensures.turn in
     let progress : IsProgress (notes_of mid) (notes_of c.read.new.self) c.in_ok-progress.progress = c.in_ok-progress.ensures.progress in
     record {
-      is_true = c.read.ensures.is_true;
       rounds = c.in_ok-progress.ensures.rounds;
       keeps = goes_trans u old mid c.read.new.self c.requires.rounds.variables goes c.in_ok-progress.ensures.keeps;
       progress = rw c.decide_after_failure.ensures.same.encoding at progress;
@@ -37,3 +35,6 @@ returns-then-branch g c =
       limits = room_trans old mid c.read.new.self c.decide_after_failure.ensures.limits c.read.ensures.limits;
       refusal = tt;
     }
+
+pub returns-in_err-progress-clause-limits : goal.returns-in_err-progress-clause-limits
+returns-in_err-progress-clause-limits g c = room_trans _ c.decide_after_failure.new.self _ c.decide_after_failure.ensures.limits c.read.ensures.limits

@@ -11,7 +11,7 @@ use Rattle.resolver_encoding.specs.declared.encoding.Encoding.{Encoding}
 use Rattle.resolvo.specs.ClauseSearches.{trail_of}
 use Rattle.resolvo.specs.RoundStates.{HasAssumed, notes_of}
 use Rattle.resolvo.proofs.SoftLemmas.{assumed_inside, ended_adds, refused_within, rounds_added, rounds_followed, still_assumed}
-use Rattle.resolvo.proofs.RoundLemmas.{room_trans}
+use Rattle.resolvo.proofs.RoundLemmas.{room_of, room_trans}
 use Rattle.resolvo.proofs.rounds.Rounds.refuse.Goals as goal
 
 pub load-requires : goal.load-requires
@@ -19,7 +19,7 @@ load-requires g c =
     let u = g.D.Interner.universe c.args.provider.now in
     let old = c.args.self.now in
     record {
-      rounds = rounds_added u old c.end_turn.new.self c.requires.rounds
+      rounds = rounds_added u old c.end_turn.new.self c.requires.rounds (c.end_turn.ensures.limits.answers c.requires.rounds.answers)
           (ended_adds u (notes_of old) (notes_in c.end_turn.new.self) c.in_ok-end_turn.ensures.ended);
     }
 
@@ -67,7 +67,6 @@ returns g c =
     let Gained : Literal → Type 0 = λ l. Gains before (trail_of c.assume.new.self) l (level_of before + 1) Assumed in
     let gains = subst Gained c.new.ensures c.in_ok-assume.ensures.gains in
     record {
-      is_true = c.end_turn.ensures.is_true;
       rest = record {
         rounds = let u = g.D.Interner.universe c.args.provider.now in
             let old = c.args.self.now.search in
@@ -112,9 +111,9 @@ returns g c =
             gains = subst GainsTo (sym c.in_ok-follow.ensures.followed.trail) gains;
           };
       limits = let loaded = room_trans c.args.self.now (record c.args.self.now { encoding = c.end_turn.new.self }) c.load.new.self
-          (record { notes = c.end_turn.ensures.limits; clauses = refl; learnt = refl }) c.load.ensures.limits in
+          (room_of _ _ c.end_turn.ensures.limits refl refl) c.load.ensures.limits in
           room_trans c.args.self.now (record c.load.new.self { search = c.assume.new.self }) c.follow.new.self
-          (record { notes = loaded.notes; clauses = loaded.clauses; learnt = loaded.learnt }) c.follow.ensures.limits;
+          (record { variables = loaded.variables; kinds = loaded.kinds; answers = loaded.answers; clauses = loaded.clauses; learnt = loaded.learnt }) (c.follow.ensures.limits _);
       refusal = tt;
     }
 
@@ -140,3 +139,10 @@ assume-requires-clause-consistent g c = c.in_ok-retract.ensures.consistent
 
 pub follow-requires-clause-consistent : goal.follow-requires-clause-consistent
 follow-requires-clause-consistent g c = c.in_ok-assume.ensures.consistent
+
+pub returns-in_err-follow-clause-limits : goal.returns-in_err-follow-clause-limits
+returns-in_err-follow-clause-limits g c =
+    let loaded = room_trans c.args.self.now (record c.args.self.now { encoding = c.end_turn.new.self }) c.load.new.self
+    (room_of _ _ c.end_turn.ensures.limits refl refl) c.load.ensures.limits in
+    room_trans c.args.self.now (record c.load.new.self { search = c.assume.new.self }) c.follow.new.self
+    (record { variables = loaded.variables; kinds = loaded.kinds; answers = loaded.answers; clauses = loaded.clauses; learnt = loaded.learnt }) (c.follow.ensures.limits _)

@@ -16,7 +16,6 @@ returns-in_ok-round-in-Nothing g c =
     let progress : IsProgress (notes_of old) (notes_of mid) c.in_ok-read_after_failure.field-0 = c.in_ok-read_after_failure.ensures.progress in
     let same : notes_of mid ≡ notes_of old = rw c.in-Nothing.is at progress in
     record {
-      is_true = c.search_and_read.ensures.is_true;
       rounds = c.in_ok-round-in-Nothing.ensures.rounds;
       keeps = goes_trans u old mid new known goes c.in_ok-round-in-Nothing.ensures.keeps;
       round = round_later u old mid new c.in_ok-round-in-Nothing.round same c.in_ok-round-in-Nothing.ensures.round;

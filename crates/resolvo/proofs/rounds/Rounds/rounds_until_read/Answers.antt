@@ -7,7 +7,6 @@ use Rattle.resolvo.proofs.rounds.Rounds.rounds_until_read.Goals as goal
 pub returns-in-Last : goal.returns-in-Last
 returns-in-Last g c =
     record {
-      is_true = c.in_ok-found.ensures.is_true;
       rounds = c.in_ok-found.ensures.rounds;
       keeps = goes_trans (g.D.Interner.universe c.args.provider.now) c.args.self.now c.rounds.self c.round.new.self c.requires.rounds.variables c.rounds.invariant.keeps
           c.in_ok-found.ensures.keeps;
@@ -22,7 +21,6 @@ returns-in-Last g c =
 pub returns-in-Read : goal.returns-in-Read
 returns-in-Read g c =
     record {
-      is_true = c.in_ok-found.ensures.is_true;
       rounds = c.in_ok-found.ensures.rounds;
       keeps = goes_trans (g.D.Interner.universe c.args.provider.now) c.args.self.now c.rounds.self c.round.new.self c.requires.rounds.variables c.rounds.invariant.keeps
           c.in_ok-found.ensures.keeps;
@@ -42,7 +40,6 @@ rounds-preserved g c =
     let round : IsRound (g.D.Interner.universe c.args.provider.now) c.rounds.self c.round.new.self c.in_ok-found.field-0 = c.in_ok-found.ensures.round in
     let fired = rw c.in-Fired.is at round in
     record {
-      is_true = c.in_ok-found.ensures.is_true;
       rounds = c.in_ok-found.ensures.rounds;
       keeps = goes_trans (g.D.Interner.universe c.args.provider.now) c.args.self.now c.rounds.self c.round.new.self c.requires.rounds.variables
           c.rounds.invariant.keeps c.in_ok-found.ensures.keeps;
@@ -55,7 +52,6 @@ rounds-init g c =
     let u = g.D.Interner.universe c.args.provider.now in
     let self = c.args.self.now in
     record {
-      is_true = c.requires.is_true;
       rounds = c.requires.rounds;
       keeps = goes_begin u self;
       room = room_same self;

@@ -24,6 +24,6 @@ returns g c =
       outcome = let mid = c.load.new.self in
           c.in_ok-outcome.ensures.outcome (notes_of mid).table (notes_of mid).requirements c.in_ok-load.ensures.loaded.loaded;
       limits = let loaded = c.load.ensures.limits in
-          record { notes = loaded.notes; clauses = loaded.clauses; learnt = loaded.learnt };
+          record { variables = loaded.variables; kinds = loaded.kinds; answers = loaded.answers; clauses = loaded.clauses; learnt = loaded.learnt };
       refusal = tt;
     }

@@ -12,7 +12,6 @@ use Rattle.resolvo.proofs.rounds.Rounds.search_and_read.Goals as goal
 pub returns-in-Contradiction : goal.returns-in-Contradiction
 returns-in-Contradiction g c =
     record {
-      is_true = c.requires.is_true;
       rounds = c.in_ok-core.ensures.rounds;
       keeps = goes_searched (g.D.Interner.universe c.args.provider.now) c.args.self.now c.search.new.self c.in_ok-core.ensures.same c.in_ok-core.ensures.turn;
       round = let mid = c.search.new.self in
@@ -26,7 +25,6 @@ returns-in-Contradiction g c =
 pub returns-in-Refused : goal.returns-in-Refused
 returns-in-Refused g c =
     record {
-      is_true = c.requires.is_true;
       rounds = c.in_ok-core.ensures.rounds;
       keeps = goes_searched (g.D.Interner.universe c.args.provider.now) c.args.self.now c.search.new.self c.in_ok-core.ensures.same c.in_ok-core.ensures.turn;
       round = let mid = c.search.new.self in
@@ -40,7 +38,6 @@ returns-in-Refused g c =
 pub returns-in-Nothing : goal.returns-in-Nothing
 returns-in-Nothing g c =
     record {
-      is_true = c.read.ensures.is_true;
       rounds = c.in_ok-read-in-Finished.ensures.rounds;
       keeps = goes_trans (g.D.Interner.universe c.args.provider.now) c.args.self.now c.search.new.self c.read.new.self c.requires.rounds.variables
           (goes_searched (g.D.Interner.universe c.args.provider.now) c.args.self.now c.search.new.self c.in_ok-core.ensures.same c.in_ok-core.ensures.turn)
@@ -68,7 +65,6 @@ returns-in-Nothing g c =
 pub returns-in-Fired : goal.returns-in-Fired
 returns-in-Fired g c =
     record {
-      is_true = c.read.ensures.is_true;
       rounds = c.in_ok-read-in-Finished.ensures.rounds;
       keeps = goes_trans (g.D.Interner.universe c.args.provider.now) c.args.self.now c.search.new.self c.read.new.self c.requires.rounds.variables
           (goes_searched (g.D.Interner.universe c.args.provider.now) c.args.self.now c.search.new.self c.in_ok-core.ensures.same c.in_ok-core.ensures.turn)
@@ -84,7 +80,6 @@ returns-in-Fired g c =
 pub returns-in-Read : goal.returns-in-Read
 returns-in-Read g c =
     record {
-      is_true = c.read.ensures.is_true;
       rounds = c.in_ok-read-in-Finished.ensures.rounds;
       keeps = goes_trans (g.D.Interner.universe c.args.provider.now) c.args.self.now c.search.new.self c.read.new.self c.requires.rounds.variables
           (goes_searched (g.D.Interner.universe c.args.provider.now) c.args.self.now c.search.new.self c.in_ok-core.ensures.same c.in_ok-core.ensures.turn)

@@ -11,7 +11,6 @@ use Rattle.resolvo.proofs.rounds.Rounds.soft_turn.Goals as goal
 pub returns-in_ok-turn-in-Solvable : goal.returns-in_ok-turn-in-Solvable
 returns-in_ok-turn-in-Solvable g c =
     record {
-      is_true = c.turn.ensures.is_true;
       rest = c.in_ok-turn-in-Solvable.ensures.rest;
       between = λ root done b.
           let u = g.D.Interner.universe c.args.provider.now in
@@ -28,7 +27,6 @@ returns-in_ok-turn-in-Solvable g c =
 pub returns-in_ok-version_set_turn-in-Matching : goal.returns-in_ok-version_set_turn-in-Matching
 returns-in_ok-version_set_turn-in-Matching g c =
     record {
-      is_true = c.version_set_turn.ensures.is_true;
       rest = c.in_ok-version_set_turn-in-Matching.ensures.rest;
       between = λ root done b.
           let u = g.D.Interner.universe c.args.provider.now in

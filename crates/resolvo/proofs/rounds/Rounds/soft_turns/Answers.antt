@@ -6,7 +6,6 @@ use Rattle.resolvo.proofs.rounds.Rounds.soft_turns.Goals as goal
 pub returns : goal.returns
 returns g c =
     record {
-      is_true = c.list_turns.ensures.is_true;
       rounds = c.in_ok-list_turns.ensures.rounds;
       between = λ root b.
           let w = c.in_ok-given_turns.ensures.between root b in
@@ -21,5 +20,8 @@ given_turns-requires-clause-can_next g c = c.requires.can_next
 pub given_turns-requires-clause-ends : goal.given_turns-requires-clause-ends
 given_turns-requires-clause-ends g c = c.requires.ends
 
-pub list_turns-requires-clause-rest : goal.list_turns-requires-clause-rest
-list_turns-requires-clause-rest g c = c.in_ok-given_turns.ensures.rest
+pub list_turns-requires : goal.list_turns-requires
+list_turns-requires g c = record { rest = c.in_ok-given_turns.ensures.rest }
+
+pub returns-in_err-list_turns-clause-limits : goal.returns-in_err-list_turns-clause-limits
+returns-in_err-list_turns-clause-limits g c = room_trans _ c.given_turns.new.self _ c.given_turns.ensures.limits c.list_turns.ensures.limits

@@ -11,7 +11,6 @@ use Rattle.resolvo.proofs.rounds.Rounds.solvable_turns.Goals as goal
 pub returns : goal.returns
 returns g c =
     record {
-      is_true = c.loop-solvable.invariant.is_true;
       rest = c.loop-solvable.invariant.rest;
       between = λ root b. (
         c.loop-solvable.yielded,
@@ -28,7 +27,6 @@ loop-solvable-preserved g c =
     let before = c.loop-solvable.invariant in
     let s = c.in-Some.solvable in
     record {
-      is_true = c.soft_turn.ensures.is_true;
       rest = c.in_ok-soft_turn.ensures.rest;
       room = room_trans c.args.self.now c.loop-solvable.self c.soft_turn.new.self before.room c.soft_turn.ensures.limits;
       between = λ root b.
@@ -40,11 +38,10 @@ loop-solvable-preserved g c =
 
 pub loop-solvable-init : goal.loop-solvable-init
 loop-solvable-init g c = record {
-  is_true = c.requires.is_true;
   rest = c.requires.rest;
   room = room_same c.args.self.now;
   between = λ root b. b;
 }
 
-pub soft_turn-requires-clause-rest : goal.soft_turn-requires-clause-rest
-soft_turn-requires-clause-rest g c = c.loop-solvable.invariant.rest
+pub soft_turn-requires : goal.soft_turn-requires
+soft_turn-requires g c = record { rest = c.loop-solvable.invariant.rest }

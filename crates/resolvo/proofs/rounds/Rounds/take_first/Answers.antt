@@ -9,7 +9,6 @@ use Rattle.resolvo.proofs.rounds.Rounds.take_first.Goals as goal
 
 pub loop-candidate-init : goal.loop-candidate-init
 loop-candidate-init g c = record {
-  is_true = c.requires.is_true;
   rest = c.requires.rest;
   room = room_same c.args.self.now;
   turned = λ root taken refused seeds packages within b. none_tried
@@ -19,7 +18,6 @@ loop-candidate-init g c = record {
 pub returns-then-branch : goal.returns-then-branch
 returns-then-branch g c =
     record {
-      is_true = c.turn.ensures.is_true;
       rest = c.in_ok-turn.ensures.rest;
       turned = λ root taken refused seeds packages within b.
           let u = g.D.Interner.universe c.args.provider.now in
@@ -47,7 +45,6 @@ loop-candidate-preserved g c =
     let all = c.args.candidates.now in
     let before = c.loop-candidate.invariant in
     record {
-      is_true = c.turn.ensures.is_true;
       rest = c.in_ok-turn.ensures.rest;
       room = room_trans c.args.self.now mid new before.room c.turn.ensures.limits;
       turned = λ root taken refused seeds packages within b.
@@ -65,7 +62,6 @@ loop-candidate-preserved g c =
 pub returns : goal.returns
 returns g c =
     record {
-      is_true = c.loop-candidate.invariant.is_true;
       rest = c.loop-candidate.invariant.rest;
       turned = λ root taken refused seeds packages within b.
           let u = g.D.Interner.universe c.args.provider.now in

@@ -10,7 +10,8 @@ use Rattle.resolver_encoding.specs.declared.encoding.Encoding.{Encoding}
 use Rattle.resolvo.specs.RoundStates.{notes_of}
 use Rattle.resolvo.proofs.SoftLemmas.{registered_adds, rounds_added, skipped, standing_loaded, standing_registered, still_added, turned_from}
 use Rattle.resolver_encoding.proofs.SoFarLemmas.{lawful_solvables}
-use Rattle.resolvo.proofs.RoundLemmas.{room_trans}
+use Rattle.resolver_encoding.proofs.RoomLemmas.{KeepsTrue-of}
+use Rattle.resolvo.proofs.RoundLemmas.{room_of, room_trans}
 use Rattle.resolvo.proofs.rounds.Rounds.turn.Goals as goal
 
 pub load-requires : goal.load-requires
@@ -19,6 +20,7 @@ load-requires g c =
     let old = c.args.self.now in
     record {
       rounds = rounds_added u old c.register.new.self c.requires.rest.rounds
+          ((KeepsTrue-of {u = u} _ _ c.register.ensures.limits).answers c.requires.rest.rounds.answers)
           (registered_adds u c.args.solvable (notes_of old) (notes_in c.register.new.self) c.in_ok-variable.ensures.registered);
     }
 
@@ -43,7 +45,6 @@ attempt-requires-clause-rest g c = record {
 pub returns-in-Some : goal.returns-in-Some
 returns-in-Some g c =
     record {
-      is_true = c.requires.is_true;
       rest = record {
         rounds = c.in_ok-load.ensures.rounds;
         still = c.in_ok-load.ensures.still
@@ -60,7 +61,8 @@ returns-in-Some g c =
           let adds = registered_adds u s (notes_of old) (notes_in e) registered in
           let same = c.in_ok-load.ensures.same in
           let loaded = standing_loaded u root taken refused seeds packages (record old { encoding = e }) new
-          (rounds_added u old e c.requires.rest.rounds adds).variables same c.in_ok-load.ensures.turn
+          (rounds_added u old e c.requires.rest.rounds
+          ((KeepsTrue-of {u = u} _ _ c.register.ensures.limits).answers c.requires.rest.rounds.answers) adds).variables same c.in_ok-load.ensures.turn
           (standing_registered u root taken refused seeds packages old e c.requires.rest.rounds adds registered.exempt b s seed registered.only registered.asked) in
           let Stands : Encoding g.row.N.Denot g.row.S.Denot → Type 0 = λ x. slice_get (notes_in x).origins c.in_ok-variable.variable ≡ Some (SolvableOrigin s) in
           let At : Trail → Type 0 = λ t. slot_of t c.in_ok-variable.variable ≡ Some c.in-Some.slot in
@@ -73,14 +75,13 @@ returns-in-Some g c =
           (subst Stands (sym same.encoding) c.in_ok-variable.ensures.variable)
           (subst At c.trail.ensures (sym c.slot.ensures ∙ c.in-Some.is)) loaded);
       limits = room_trans c.args.self.now (record c.args.self.now { encoding = c.register.new.self }) c.load.new.self
-          (record { notes = c.register.ensures.limits; clauses = refl; learnt = refl }) c.load.ensures.limits;
+          (room_of _ _ (KeepsTrue-of _ _ c.register.ensures.limits) refl refl) c.load.ensures.limits;
       refusal = tt;
     }
 
 pub returns-in_ok-is_chosen-in-None : goal.returns-in_ok-is_chosen-in-None
 returns-in_ok-is_chosen-in-None g c =
     record {
-      is_true = c.attempt.ensures.is_true;
       rest = c.in_ok-is_chosen-in-None.ensures.rest;
       turned = λ root taken refused seeds packages seed b.
           let u = g.D.Interner.universe c.args.provider.now in
@@ -92,7 +93,8 @@ returns-in_ok-is_chosen-in-None g c =
           let adds = registered_adds u s (notes_of old) (notes_in e) registered in
           let same = c.in_ok-load.ensures.same in
           let loaded = standing_loaded u root taken refused seeds packages (record old { encoding = e }) mid
-          (rounds_added u old e c.requires.rest.rounds adds).variables same c.in_ok-load.ensures.turn
+          (rounds_added u old e c.requires.rest.rounds
+          ((KeepsTrue-of {u = u} _ _ c.register.ensures.limits).answers c.requires.rest.rounds.answers) adds).variables same c.in_ok-load.ensures.turn
           (standing_registered u root taken refused seeds packages old e c.requires.rest.rounds adds registered.exempt b s seed registered.only registered.asked) in
           let Seen : Encoding g.row.N.Denot g.row.S.Denot → Type 0 = λ x. Contains (notes_in x).seen s in
           turned_from u root taken refused seeds packages s old mid _ _ (ap chosen_in same.chosen) (ap (λ x. (notes_in x).exempt) same.encoding ∙ registered.exempt)
@@ -100,7 +102,7 @@ returns-in_ok-is_chosen-in-None g c =
           (c.in_ok-is_chosen-in-None.ensures.turned (subst Seen (sym same.encoding) registered.here) root taken refused seeds packages seed loaded);
       limits = room_trans c.args.self.now c.load.new.self c.attempt.new.self
           (room_trans c.args.self.now (record c.args.self.now { encoding = c.register.new.self }) c.load.new.self
-          (record { notes = c.register.ensures.limits; clauses = refl; learnt = refl }) c.load.ensures.limits) c.attempt.ensures.limits;
+          (room_of _ _ (KeepsTrue-of _ _ c.register.ensures.limits) refl refl) c.load.ensures.limits) c.attempt.ensures.limits;
       refusal = tt;
     }
 

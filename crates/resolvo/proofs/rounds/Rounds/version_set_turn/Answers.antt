@@ -8,17 +8,16 @@ use Rattle.resolver_clause_store.specs.declared.SoftRequirement.{SoftRequirement
 use Rattle.resolver_clause_store.specs.declared.SoftRequirement.TheVariants.{Matching}
 use Rattle.resolver_clause_store.proofs.RequirementLemmas.{matching_named, sorted_matches}
 use Rattle.resolvo.specs.RoundStates.{chosen_of, notes_of}
-use Rattle.resolvo.proofs.SoftTurnLemmas.{between_met, between_tried, gathered_last, sorted_has, standing_for}
+use Rattle.resolvo.proofs.SoftTurnLemmas.{between_known, between_met, between_tried, gathered_last, sorted_has, standing_for, standing_known}
 use Rattle.resolver_clause_store.proofs.ListLemmas.{Contains-here as here}
 use Rattle.resolver_encoding.proofs.SoFarLemmas.{lawful_solvables}
-use Rattle.resolvo.proofs.RoundLemmas.{room_same, room_trans}
+use Rattle.resolvo.proofs.RoundLemmas.{rest_known, room_known, room_trans}
 use Rattle.resolvo.proofs.rounds.Rounds.version_set_turn.Goals as goal
 
 pub returns-then-has_any : goal.returns-then-has_any
 returns-then-has_any g c =
     record {
-      is_true = c.in_ok-candidates.ensures.is_true;
-      rest = c.requires.rest;
+      rest = rest_known _ _ _ c.in_ok-candidates.ensures.is_true c.requires.rest;
       between = λ root done b.
           let u = g.D.Interner.universe c.args.provider.now in
           let v = c.args.version_set in
@@ -28,13 +27,13 @@ returns-then-has_any g c =
           let same : c.deref.result.now ≡ sorted_candidates u v = c.deref.ensures.value ∙ c.in_ok-candidates.ensures.value in
           let m : Meets c.deref.result.now c.solvables.result.now.keys = c.if-has_any.ensures in
           let Has : List g.row.S.Denot → Type 0 = λ list. Contains list m.shared in
-          between_met u root done v c.args.self.now
+          between_known u root (done ++ Matching v ∷ []) _ _ (between_met u root done v c.args.self.now
           (record {
             shared = m.shared;
             in_first = sorted_matches u laws lawful.same_solvable v m.shared (subst Has same m.in_first);
             in_second = subst Has c.solvables.ensures m.in_second;
-          }) b;
-      limits = room_same c.args.self.now;
+          }) b);
+      limits = room_known _ _ _ c.in_ok-candidates.ensures.is_true;
       refusal = tt;
     }
 
@@ -65,7 +64,6 @@ take_first-requires-clause-none g c = λ m.
 pub returns : goal.returns
 returns g c =
     record {
-      is_true = c.take_first.ensures.is_true;
       rest = c.in_ok-take_first.ensures.rest;
       between = λ root done b.
           let u = g.D.Interner.universe c.args.provider.now in
@@ -96,10 +94,15 @@ returns g c =
           between_tried u root done v all old c.ask.new.self c.take_first.new.self _ b never match every c.in_ok-ask.ensures.asked.chosen alone.exempt alone.asked.stays
           (alone.asked.all (u.version_set_name v) refl)
           (c.in_ok-take_first.ensures.turned root b.taken b.refused seeds packages (λ s h. gathered_last (options u) done r s (match s h))
-          (c.in_ok-ask.ensures.asked.standing root b.taken b.refused seeds packages own (standing_for u root done r b.taken b.refused old b.standing)));
-      limits = room_trans c.args.self.now c.ask.new.self c.take_first.new.self c.ask.ensures.limits c.take_first.ensures.limits;
+          (c.in_ok-ask.ensures.asked.standing root b.taken b.refused seeds packages own
+          (standing_known u root b.taken b.refused seeds packages old _ (standing_for u root done r b.taken b.refused old b.standing))));
+      limits = room_trans _ _ _ (room_known _ _ _ c.in_ok-candidates.ensures.is_true)
+          (room_trans _ c.ask.new.self _ c.ask.ensures.limits c.take_first.ensures.limits);
       refusal = tt;
     }
 
 pub take_first-requires-clause-rest : goal.take_first-requires-clause-rest
 take_first-requires-clause-rest g c = c.in_ok-ask.ensures.rest
+
+pub ask-requires : goal.ask-requires
+ask-requires g c = record { rest = rest_known _ _ _ c.in_ok-candidates.ensures.is_true c.requires.rest }

@@ -10,7 +10,7 @@ returns-in-Err-from_slice-clause-sound g c = c.requires.sound
 
 pub returns-in-Err-clause-keeps : goal.returns-in-Err-clause-keeps
 returns-in-Err-clause-keeps g c =
-    record { provider = refl; limits = record { variables = refl; clauses = refl; learnt = refl }; activity = refl; rounds = refl }
+    record { provider = refl; limits = record { variables = refl; clauses = refl; learnt = refl }; activity = refl; notes = refl; search = refl }
 
 pub returns-in-Err-clause-memory : goal.returns-in-Err-clause-memory
 returns-in-Err-clause-memory g c = ap Exhausted c.in-Err.ensures.memory
@@ -20,7 +20,7 @@ returns-in-Err-clause-none g c = c.requires.none
 
 pub returns-in-Err-from_slice-clause-keeps : goal.returns-in-Err-from_slice-clause-keeps
 returns-in-Err-from_slice-clause-keeps g c =
-    record { provider = refl; limits = record { variables = refl; clauses = refl; learnt = refl }; activity = refl; rounds = refl }
+    record { provider = refl; limits = record { variables = refl; clauses = refl; learnt = refl }; activity = refl; notes = refl; search = refl }
 
 pub returns-in-Err-from_slice-clause-memory : goal.returns-in-Err-from_slice-clause-memory
 returns-in-Err-from_slice-clause-memory g c = refl
@@ -36,7 +36,7 @@ returns-in-Ok-from_slice-clause-exempt g c = c.in-Ok-from_slice.ensures.items âˆ
 
 pub returns-in-Ok-from_slice-clause-keeps : goal.returns-in-Ok-from_slice-clause-keeps
 returns-in-Ok-from_slice-clause-keeps g c =
-    record { provider = refl; limits = record { variables = refl; clauses = refl; learnt = refl }; activity = refl; rounds = refl }
+    record { provider = refl; limits = record { variables = refl; clauses = refl; learnt = refl }; activity = refl; notes = refl; search = refl }
 
 pub returns-in-Ok-from_slice-clause-sound : goal.returns-in-Ok-from_slice-clause-sound
 returns-in-Ok-from_slice-clause-sound g c = record { true_answers = c.requires.sound.true_answers; fits = c.requires.sound.fits }

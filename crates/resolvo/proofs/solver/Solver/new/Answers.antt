@@ -1,12 +1,16 @@
-use Rattle.std.proofs.Common.{◌≡◌, ◌+◌, ◌-◌, ◌^◌, List, Option, ap, arith, length, rules}
+use Rattle.std.proofs.Common.{◌≡◌, ◌+◌, ◌-◌, ◌^◌, List, Option, ap, arith, length, rules, subst, sym}
 use Rattle.std.specs.Prelude.{count_by, is_some, min}
+use Rattle.resolver_clause_store.specs.Caches.{IsTrueCache}
+use Rattle.resolver_clause_store.specs.declared.Cache.{Cache}
 use Rattle.resolver_encoding.specs.ReadState.{Deferred}
 use Rattle.resolvo.specs.ClauseSearches.{learnt_count_of}
 use Rattle.resolvo.specs.RoundStates.{notes_of, search_of}
 use Rattle.resolvo.proofs.solver.Solver.new.Goals as goal
 
 pub returns-clause-sound : goal.returns-clause-sound
-returns-clause-sound g c = record { true_answers = c.new.ensures (g.D.Interner.universe c.args.provider); fits = search rules }
+returns-clause-sound g c =
+    let Known : Cache g.row.D-NameId.Denot g.row.D-SolvableId.Denot → Type 0 = λ cache. IsTrueCache (g.D.Interner.universe c.args.provider) cache in
+    record { true_answers = subst Known (sym c.new-2.ensures.cache) (c.new.ensures (g.D.Interner.universe c.args.provider)); fits = search rules }
 
 pub returns-clause-no_clauses : goal.returns-clause-no_clauses
 returns-clause-no_clauses g c =

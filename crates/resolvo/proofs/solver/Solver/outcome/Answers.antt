@@ -73,7 +73,7 @@ pub returns-in-Err-Cancelled : goal.returns-in-Err-Cancelled
 returns-in-Err-Cancelled g c =
     record {
       sound = c.requires.sound;
-      keeps = record { provider = refl; limits = record { variables = refl; clauses = refl; learnt = refl }; activity = refl; rounds = refl };
+      keeps = record { provider = refl; limits = record { variables = refl; clauses = refl; learnt = refl }; activity = refl; notes = refl; search = refl };
       none = c.requires.none;
       found = tt;
       answer = tt;
@@ -84,7 +84,7 @@ pub returns-in-Err-Exhausted : goal.returns-in-Err-Exhausted
 returns-in-Err-Exhausted g c =
     record {
       sound = c.requires.sound;
-      keeps = record { provider = refl; limits = record { variables = refl; clauses = refl; learnt = refl }; activity = refl; rounds = refl };
+      keeps = record { provider = refl; limits = record { variables = refl; clauses = refl; learnt = refl }; activity = refl; notes = refl; search = refl };
       none = c.requires.none;
       found = tt;
       answer = tt;

@@ -1,10 +1,14 @@
-use Rattle.std.proofs.Common.{List, refl, subst, sym, ◌≡◌, ◌++◌}
+use Rattle.std.proofs.Common.{List, ap, refl, subst, sym, ◌≡◌, ◌++◌, ◌∙◌}
 use Rattle.std.specs.Prelude.{Ok, Option, map, IfSome}
+use Rattle.resolver_clause_store.specs.Caches.{IsTrueCache}
+use Rattle.resolver_clause_store.specs.declared.Cache.{Cache}
 use Rattle.resolver_clause_store.specs.declared.SoftRequirement.TheVariants.{Solvable}
+use Rattle.resolver_encoding.specs.Notes.{cache_in}
+use Rattle.resolver_encoding.specs.declared.encoding.Encoding.{Encoding}
 use Rattle.resolvo.specs.Answers.{AnswersFound, IsAnswerTo}
 use Rattle.resolvo.specs.Problems.{AreItems, list_in, root_demands}
 use Rattle.resolvo.specs.Refusals.{IsRefusal, RefusesFound}
-use Rattle.resolvo.specs.RoundStates.{IsDone, IsFresh, IsStuck, IsSomeDone, KeepsRoundLimits}
+use Rattle.resolvo.specs.RoundStates.{IsDone, IsFresh, IsStuck, IsSomeDone, KeepsRoundLimits, cache_of}
 use Rattle.resolvo.specs.declared.rounds.Rounds.{Rounds}
 use Rattle.resolvo.specs.Solvers.{IsAtLimit, exempt_in}
 use Rattle.resolvo.specs.declared.rounds.Found.TheVariants.{Answer}
@@ -26,16 +30,28 @@ find-found-requires-clause-ends g c =
 pub find-found-requires-clause-fresh : goal.find-found-requires-clause-fresh
 find-found-requires-clause-fresh g c =
     let Fresh : Rounds g.row.D-NameId.Denot g.row.D-SolvableId.Denot → Type 0 = λ r. IsFresh r in
-    subst Fresh (sym c.replace.ensures.after) c.new-rounds.ensures.fresh
+    subst Fresh (sym c.replace-2.ensures.after) c.new-rounds.ensures.fresh
 
 pub find-found-requires-clause-is_true : goal.find-found-requires-clause-is_true
-find-found-requires-clause-is_true g c = c.requires.sound.true_answers
+find-found-requires-clause-is_true g c =
+    let u = g.D.Interner.universe c.args.self.now.provider in
+    let Known : Cache g.row.D-NameId.Denot g.row.D-SolvableId.Denot → Type 0 = λ cache. IsTrueCache u cache in
+    let KnownOf : Rounds g.row.D-NameId.Denot g.row.D-SolvableId.Denot → Type 0 = λ r. IsTrueCache u (cache_of r) in
+    let same = c.new-rounds.ensures.cache ∙ c.into_cache.ensures ∙ ap (λ (e : Encoding g.row.D-NameId.Denot g.row.D-SolvableId.Denot). cache_in e) c.replace.ensures.value in
+    let known = subst KnownOf (sym c.replace-2.ensures.after) (subst Known (sym same) c.requires.sound.true_answers) in
+    known
 
 pub outcome-answer-requires-clause-table : goal.outcome-answer-requires-clause-table
 outcome-answer-requires-clause-table g c = c.find-found.ensures.table
 
 pub outcome-answer-requires-clause-sound : goal.outcome-answer-requires-clause-sound
-outcome-answer-requires-clause-sound g c = record { true_answers = c.find-found.ensures.is_true; fits = c.requires.sound.fits }
+outcome-answer-requires-clause-sound g c =
+    let u = g.D.Interner.universe c.args.self.now.provider in
+    let Known : Cache g.row.D-NameId.Denot g.row.D-SolvableId.Denot → Type 0 = λ cache. IsTrueCache u cache in
+    let KnownOf : Rounds g.row.D-NameId.Denot g.row.D-SolvableId.Denot → Type 0 = λ r. IsTrueCache u (cache_of r) in
+    let same = c.new-rounds.ensures.cache ∙ c.into_cache.ensures ∙ ap (λ (e : Encoding g.row.D-NameId.Denot g.row.D-SolvableId.Denot). cache_in e) c.replace.ensures.value in
+    let known = subst KnownOf (sym c.replace-2.ensures.after) (subst Known (sym same) c.requires.sound.true_answers) in
+    record { true_answers = c.find-found.ensures.limits.answers known; fits = c.requires.sound.fits }
 
 pub outcome-answer-requires-clause-stop : goal.outcome-answer-requires-clause-stop
 outcome-answer-requires-clause-stop g c = c.find-found.ensures.refusal
@@ -103,12 +119,13 @@ returns-clause-refusal g c =
     c.find-found.ensures.done in
     let made = c.new-rounds.ensures in
     let limits = c.outcome-answer.ensures.keeps.limits in
-    let Room : Rounds g.row.D-NameId.Denot g.row.D-SolvableId.Denot → Type 0 = λ r. KeepsRoundLimits r rounds in
-    let room : Room c.new-rounds.result = subst Room c.replace.ensures.after c.find-found.ensures.limits in
+    let Room : Rounds g.row.D-NameId.Denot g.row.D-SolvableId.Denot → Type 0 = λ r. KeepsRoundLimits u r rounds in
+    let room : Room c.new-rounds.result = subst Room c.replace-2.ensures.after c.find-found.ensures.limits in
     IfErr-weaker c.outcome-answer.result (λ e. RefusesFound u may_cancel rounds c.find-found.result e)
     (λ e. IsRefusal u may_cancel root (IsAtLimit new) e)
     (λ e h. refusal_weaker u may_cancel root (IsStuck rounds) (IsAtLimit new)
-    (at_limit c.new-rounds.result rounds c.args.self.now new room made.variables made.clauses made.all_clauses made.learnt
-    (record { variables = limits.variables; clauses = limits.clauses; learnt = limits.learnt }) c.outcome-answer.ensures.keeps.rounds)
+    (at_limit u c.new-rounds.result rounds c.args.self.now new room made.variables made.clauses made.all_clauses made.learnt
+    (record { variables = limits.variables; clauses = limits.clauses; learnt = limits.learnt }) c.outcome-answer.ensures.keeps.notes
+    c.outcome-answer.ensures.keeps.search)
     e (h root (map Solvable w.0 ++ list) w.2))
     c.outcome-answer.ensures.refusal
