@@ -459,18 +459,26 @@ fn a_condition_activates_a_requirement(rt: HostRuntime) -> Result<(), Fail> {
     Ok(())
 }
 
-/// Returns whether ids run out behind two clauses with the first room, the problem has its answer with the second room,
-/// and also after each of them with the limits set back.
-fn runs_out<'x>(alloc: Global, little: Step<'x>, enough: Step<'x>) -> bool {
+/// Returns the step that lowers the limit of variables, or of clauses.
+fn room_for<'x>(variables: bool, room: u16) -> Step<'x> {
+    if variables {
+        return Step::Room(room);
+    }
+    Step::RoomForClauses(room)
+}
+
+/// Returns whether ids run out behind two clauses with room for two, the problem has its answer with room for three, and
+/// also after each of them with the limits set back.
+fn runs_out(alloc: Global, variables: bool) -> bool {
     let asked = Asked::Required(&[always(11)]);
     let refused = Step::Solve(asked, Wanted::IdsBehind(2));
     let answered = Step::Solve(asked, Wanted::Counted(&[11, 24], 3, 0));
     let steps = [
-        little,
+        room_for(variables, 2),
         refused,
         Step::Unlimited,
         answered,
-        enough,
+        room_for(variables, 3),
         answered,
         Step::Unlimited,
         answered,
@@ -480,13 +488,13 @@ fn runs_out<'x>(alloc: Global, little: Step<'x>, enough: Step<'x>) -> bool {
 
 #[test]
 fn variables_run_out_at_the_limit(rt: HostRuntime) -> Result<(), Fail> {
-    assert!(rt; runs_out(rt.alloc(), Step::Room(2), Step::Room(3)));
+    assert!(rt; runs_out(rt.alloc(), true));
     Ok(())
 }
 
 #[test]
 fn clauses_run_out_at_the_limit(rt: HostRuntime) -> Result<(), Fail> {
-    assert!(rt; runs_out(rt.alloc(), Step::RoomForClauses(2), Step::RoomForClauses(3)));
+    assert!(rt; runs_out(rt.alloc(), false));
     Ok(())
 }
 
