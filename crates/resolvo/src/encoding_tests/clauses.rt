@@ -325,7 +325,10 @@ fn register_all<
     N: Copy + Eq + Hash + Drop,
     S: Copy + Eq + Hash + Drop,
     D: DependencyProvider<NameId = N, SolvableId = S>,
->(encoding: &mut Encoding<N, S>, provider: &D, solvables: &[S]) -> Result<(), Exhausted> {
+>(encoding: &mut Encoding<N, S>, provider: &D, solvables: &[S]) -> Result<(), Exhausted>
+    requires { IsTrueCache (D.universe provider.now) (cache_in encoding.old) }
+    ensures { IsTrueCache (D.universe provider.now) (cache_in encoding.new) }
+{
     for solvable in solvables {
         encoding.register(provider, *solvable)?;
     }
