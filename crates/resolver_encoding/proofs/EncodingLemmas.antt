@@ -374,7 +374,15 @@ module _ {N S : Type 0} (u : Universe N S) where
       (AreListed-kind old.kinds old.requirements kind (record { listed = before.listed; ask = before.ask })) (next root premise before) before in
       let longer : Extends old.requirements numbers = Extends-asking kind (length old.kinds) old.requirements in
       subst Step (sym adds.is)
-      (assumption (IsStep-same doing Premise old, IsGrowth-same old, adds.origins.keeps, Extends-push old.table adds.literals, IsWithin-push old.kinds kind, longer))
+      (assumption (
+        IsStep-same doing Premise old,
+        IsGrowth-same old,
+        adds.origins.keeps,
+        Extends-push old.table adds.literals,
+        IsWithin-push old.kinds kind,
+        Extends-push old.kinds kind,
+        longer,
+      ))
 
   pub clause_listed : (old new : Notes N S) (kind : ClauseKind N S) → AddsKind u kind old new → Contains new.kinds kind
   clause_listed old new kind adds =

@@ -27,7 +27,7 @@ use Rattle.resolver_clause_store.proofs.NearLemmas.{IsNamed-within, IsNear-close
 use Rattle.resolver_clause_store.proofs.PlaceLemmas.{place_of_member}
 use Rattle.resolver_clause_store.specs.Statements.{IsPresent, AllMeet}
 use Rattle.resolver_clause_store.specs.TrueRules.{demands_by}
-use Rattle.resolver_encoding.specs.Atoms.{Atom, atom, atoms_of, origin_by}
+use Rattle.resolver_encoding.specs.Atoms.{Atom, atom, atoms_of, origin_by, wanted}
 use Rattle.resolver_encoding.specs.Called.{Call, IsDemanded, IsNamedBy, IsWantedBy, to_ask, to_see}
 use Rattle.resolver_encoding.specs.Encodings.{HasProperHelper, IsCallMade, IsEncoding, IsReadStep, IsTrueEntry, IsUnmet, Notes}
 use Rattle.resolver_encoding.specs.Reach.{AreNear}
@@ -168,12 +168,6 @@ asked_named u root set notes so n named = ⊎_elim
 
 -- a positive atom of a solvable is in a requirement clause, and the solvable is one of its candidates
 module _ {N S : Type 0} (u : Universe N S) (s : S) where
-  -- the clause has the solvable among its candidates
-  abbrev AsksForIt : ClauseKind N S → Type 0
-  AsksForIt (RequiresKind by disjunct r) = Contains (requirement_candidates u r) s
-  AsksForIt (GateRequires r) = Contains (requirement_candidates u r) s
-  AsksForIt kind = ⊥
-
   abbrev IsIt : Atom N S → Type 0
   IsIt a = (a.positive ≡ true) × (a.origin ≡ Solvable s)
 
@@ -207,8 +201,8 @@ module _ {N S : Type 0} (u : Universe N S) (s : S) where
   neither : (a b c : Atom N S) → (IsIt a → ⊥) → (IsIt b → ⊥) → Contains (a ∷ b ∷ []) c → IsIt c → ⊥
   neither a b c first second h it = ⊎_elim first second (one_of_two a b c h it)
 
-  asks_for_it : (kind : ClauseKind N S) → HasProperHelper kind → (a : Atom N S) → Contains (atoms_of u kind) a → IsIt a → AsksForIt kind
-  asks_for_it InstallRoot proper a h it = not_root Root refl (only_atom (atom Root true) a h it).1
+  asks_for_it : (kind : ClauseKind N S) → HasProperHelper kind → (a : Atom N S) → Contains (atoms_of u kind) a → IsIt a → Contains (wanted u kind) s
+  asks_for_it InstallRoot proper a h it = absurd (not_root Root refl (only_atom (atom Root true) a h it).1)
   asks_for_it (RequiresKind by disjunct r) proper a h it =
       let helpers : List (Atom N S) = map (λ v. atom (ConditionHelper v) false) disjunct in
       let candidates : List (Atom N S) = map (λ t. atom (Solvable t) true) (requirement_candidates u r) in
@@ -225,35 +219,35 @@ module _ {N S : Type 0} (u : Universe N S) (s : S) where
       (λ (is : atom (Gate r) false ≡ a). absurd (true≢false (sym (subst IsIt (sym is) it).0)))
       (λ (candidate : Contains candidates a). candidate_is (requirement_candidates u r) a candidate it)
       (cons_cases (atom (Gate r) false) candidates a h)
-  asks_for_it (AnyOf Root t) proper a h it = proper
-  asks_for_it (AnyOf (Solvable q) t) proper a h it = proper
-  asks_for_it (AnyOf (Bit n i) t) proper a h it = proper
-  asks_for_it (AnyOf (ConstraintHelper v) t) proper a h it = proper
-  asks_for_it (AnyOf (Gate r) t) proper a h it = neither (atom (Gate r) true) (atom (Solvable t) false) a (λ i. cc) (λ i. true≢false (sym i.0)) h it
+  asks_for_it (AnyOf Root t) proper a h it = absurd proper
+  asks_for_it (AnyOf (Solvable q) t) proper a h it = absurd proper
+  asks_for_it (AnyOf (Bit n i) t) proper a h it = absurd proper
+  asks_for_it (AnyOf (ConstraintHelper v) t) proper a h it = absurd proper
+  asks_for_it (AnyOf (Gate r) t) proper a h it = absurd (neither (atom (Gate r) true) (atom (Solvable t) false) a (λ i. cc) (λ i. true≢false (sym i.0)) h it)
   asks_for_it (AnyOf (ConditionHelper v) t) proper a h it =
-      neither (atom (ConditionHelper v) true) (atom (Solvable t) false) a (λ i. cc) (λ i. true≢false (sym i.0)) h it
+      absurd (neither (atom (ConditionHelper v) true) (atom (Solvable t) false) a (λ i. cc) (λ i. true≢false (sym i.0)) h it)
   asks_for_it (ConstrainsKind by v t) proper a h it =
-      neither (atom (origin_by by) false) (atom (Solvable t) false) a (by_not by) (λ i. true≢false (sym i.0)) h it
+      absurd (neither (atom (origin_by by) false) (atom (Solvable t) false) a (by_not by) (λ i. true≢false (sym i.0)) h it)
   asks_for_it (ConstrainsExcluded t v) proper a h it =
-      neither (atom (Solvable t) false) (atom (ConstraintHelper v) true) a (λ i. true≢false (sym i.0)) (λ i. cc) h it
+      absurd (neither (atom (Solvable t) false) (atom (ConstraintHelper v) true) a (λ i. true≢false (sym i.0)) (λ i. cc) h it)
   asks_for_it (ConstrainsParent by v) proper a h it =
-      neither (atom (origin_by by) false) (atom (ConstraintHelper v) false) a (by_not by) (λ i. true≢false (sym i.0)) h it
-  asks_for_it (HasBit n t i b) proper a h it = neither (atom (Solvable t) false) (atom (Bit n i) b) a (λ j. true≢false (sym j.0)) (λ j. cc) h it
-  asks_for_it (Lock t q) proper a h it = neither (atom Root false) (atom (Solvable q) false) a (λ i. true≢false (sym i.0)) (λ i. true≢false (sym i.0)) h it
-  asks_for_it (Excluded t reason) proper a h it = true≢false (sym (only_atom (atom (Solvable t) false) a h it).0)
+      absurd (neither (atom (origin_by by) false) (atom (ConstraintHelper v) false) a (by_not by) (λ i. true≢false (sym i.0)) h it)
+  asks_for_it (HasBit n t i b) proper a h it = absurd (neither (atom (Solvable t) false) (atom (Bit n i) b) a (λ j. true≢false (sym j.0)) (λ j. cc) h it)
+  asks_for_it (Lock t q) proper a h it = absurd (neither (atom Root false) (atom (Solvable q) false) a (λ i. true≢false (sym i.0)) (λ i. true≢false (sym i.0)) h it)
+  asks_for_it (Excluded t reason) proper a h it = absurd (true≢false (sym (only_atom (atom (Solvable t) false) a h it).0))
 
-  asked_seen : (root : Demands) (notes : Notes N S) → IsEncoding u root notes → (kind : ClauseKind N S) → Contains notes.kinds kind → AsksForIt kind →
+  pub asked_seen : (root : Demands) (notes : Notes N S) → IsEncoding u root notes → (kind : ClauseKind N S) → Contains notes.kinds kind → Contains (wanted u kind) s →
       Contains notes.seen s
   asked_seen root notes encoding (RequiresKind by disjunct r) inside asks = encoding.candidates by disjunct r inside s asks
   asked_seen root notes encoding (GateRequires r) inside asks = encoding.gate_candidates r inside s asks
-  asked_seen root notes encoding InstallRoot inside asks = absurd asks
-  asked_seen root notes encoding (AnyOf helper t) inside asks = absurd asks
-  asked_seen root notes encoding (ConstrainsKind by v t) inside asks = absurd asks
-  asked_seen root notes encoding (ConstrainsExcluded t v) inside asks = absurd asks
-  asked_seen root notes encoding (ConstrainsParent by v) inside asks = absurd asks
-  asked_seen root notes encoding (HasBit n t i b) inside asks = absurd asks
-  asked_seen root notes encoding (Lock t q) inside asks = absurd asks
-  asked_seen root notes encoding (Excluded t reason) inside asks = absurd asks
+  asked_seen root notes encoding InstallRoot inside asks = absurd (none_in s asks)
+  asked_seen root notes encoding (AnyOf helper t) inside asks = absurd (none_in s asks)
+  asked_seen root notes encoding (ConstrainsKind by v t) inside asks = absurd (none_in s asks)
+  asked_seen root notes encoding (ConstrainsExcluded t v) inside asks = absurd (none_in s asks)
+  asked_seen root notes encoding (ConstrainsParent by v) inside asks = absurd (none_in s asks)
+  asked_seen root notes encoding (HasBit n t i b) inside asks = absurd (none_in s asks)
+  asked_seen root notes encoding (Lock t q) inside asks = absurd (none_in s asks)
+  asked_seen root notes encoding (Excluded t reason) inside asks = absurd (none_in s asks)
 
 -- the solvables of positive literals are registered
 pub positives_seen : {N S : Type 0} (u : Universe N S) (root : Demands) (notes : Notes N S) → IsEncoding u root notes → (clause : List Literal) →

@@ -165,7 +165,7 @@ module _ {N S : Type 0} (u : Universe N S) (set : List S) where
     pub read_more : IsReadMore u set old new
     read_more =
         let read : Extends old.read new.read = record { more = reading.read.more; is = firing.read ∙ reading.read.is } in
-        let reads : (s : S) → Contains new.read s → Contains old.read s ⊎ (Contains set s ⊎ IsListedFrom new (length old.requirements) s) =
+        let reads : (s : S) → Contains new.read s → Contains old.read s ⊎ (Contains set s ⊎ IsListedFrom u new (length old.kinds) s) =
         λ s h. ⊎_elim (λ before. inl before) (λ chosen. inr (inl chosen)) (reading.reads s (IsWithin-equal new.read mid.read (sym firing.read) s h)) in
         let taken = λ (i : ℕ) (e : Deferred S) (at : slice_get old.deferred i ≡ Some (Some e)).
         ⊎_elim (λ still. inl still) (λ fired. inr fired.0) (firing.taken i e (place_on old.deferred mid.deferred reading.deferred i (Some e) at)) in

@@ -199,6 +199,7 @@ pub record IsGrowth {N S : Type 0} (old new : Notes N S) : Type 0 where
   pub origins : Keeps old.origins new.origins
   pub table : Extends old.table new.table
   pub kinds : IsWithin old.kinds new.kinds
+  pub numbered : Extends old.kinds new.kinds
   pub requirements : Extends old.requirements new.requirements
   pub seen : Extends old.seen new.seen
   pub asked : IsWithin old.asked new.asked

@@ -55,7 +55,7 @@ left_count notes = count_by is_some notes.deferred
 pub record IsReadMore {N S : Type 0} (u : Universe N S) (set : List S) (old new : Notes N S) : Type 0 where
   pub growth : IsGrowth old new
   pub read : Extends old.read new.read
-  pub reads : (s : S) → Contains new.read s → Contains old.read s ⊎ (Contains set s ⊎ IsListedFrom new (length old.requirements) s)
+  pub reads : (s : S) → Contains new.read s → Contains old.read s ⊎ (Contains set s ⊎ IsListedFrom u new (length old.kinds) s)
   pub taken : (i : ℕ) (e : Deferred S) → slice_get old.deferred i ≡ Some (Some e) → (slice_get new.deferred i ≡ Some (Some e)) ⊎
       AllMeet set (map (matching u) e.disjunct)
   pub exempt : new.exempt ≡ old.exempt
@@ -152,6 +152,6 @@ pub record IsBare {N S : Type 0} (notes : Notes N S) : Type 0 where
 
 -- Candidates of requirement clauses from this place on were read. What was near is still near, if the set is.
 pub record IsHintedReading {N S : Type 0} (u : Universe N S) (set : List S) (from : ℕ) (old new : Notes N S) : Type 0 where
-  pub reading : IsReadingOf u set (IsListedFrom new from) old new
+  pub reading : IsReadingOf u set (IsListedFrom u new from) old new
   pub near : (root : Demands) (seeds : List S) (packages : List N) → AreNear u root seeds packages old → All (IsNear u root seeds) set →
       AreNear u root seeds packages new

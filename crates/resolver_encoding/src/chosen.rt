@@ -28,7 +28,7 @@ fn is_true_at(trail: &Trail, place: usize) -> bool
 }
 
 /// Returns the solvable that a variable stands for, if any.
-pub(crate) fn as_solvable<N: Drop, S: Drop>(origin: Option<Origin<N, S>>) -> Option<S>
+fn as_solvable<N: Drop, S: Drop>(origin: Option<Origin<N, S>>) -> Option<S>
     ensures { result ≡ solvable_found origin }
 {
     match origin {

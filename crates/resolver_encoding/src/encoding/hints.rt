@@ -1,35 +1,34 @@
 //! Candidates that are read early, because their dependencies are available.
 
-ghost use Rattle.std.specs.Prelude.{◌≡◌, ◌<◌, ◌≤◌, ◌++◌, Contains, IfErr, IfOk, IfSome, OnOk, Some, length, true};
-ghost use Rattle.std.specs.Option.{option_to_list};
+ghost use Rattle.std.specs.Prelude.{◌≡◌, ◌<◌, ◌≤◌, [], Contains, IfErr, IfOk, IfSome, OnOk, Some, length, true};
+ghost use Rattle.std.specs.Option.{option_map_or};
 ghost use Rattle.resolver_clause_store.specs.Caches.{HasCandidates, IsAvailable, IsTrueCache};
+ghost use Rattle.resolver_clause_store.specs.Candidates.{requirement_candidates as candidates_of};
+ghost use Rattle.resolver_clause_store.specs.Interruptions.{IsInterruption};
 ghost use Rattle.resolver_clause_store.specs.Laws.{IsIdentity};
 ghost use Rattle.resolver_clause_store.specs.Universe.{Universe};
-ghost use Rattle.resolver_clause_store.specs.Formula.{clause_at};
+ghost use Rattle.resolver_encoding.specs.Atoms.{wanted};
 ghost use Rattle.resolver_encoding.specs.Encodings.{IsFull};
-ghost use Rattle.resolver_encoding.specs.Hints.{AreHintsRead, AreHintsReadTo, AreReadIfHinted, HintsAtNone, IsHinted, candidates_at, literals_at, stated_by};
+ghost use Rattle.resolver_encoding.specs.Hints.{AreHintsRead, AreHintsReadTo, AreReadIfHinted, HintsAtNone, IsHinted, candidates_at};
 ghost use Rattle.resolver_encoding.specs.Refusals.{IsStop};
 ghost use Rattle.resolver_encoding.specs.SoFar.{HasRead, IsHalfReading, IsHintedReading, IsMoreOrSame, IsReadingOf};
 
 use super::Encoding;
-use crate::chosen::as_solvable;
 use indexmap::IndexSet;
 use resolver_clause_store::{
-    Cache, DependencyProvider, Exhausted, Interner, Interrupted, Literal, clause, is_among,
+    Cache, ClauseKind, DependencyProvider, Interner, Interrupted, Requirement, is_among,
+    requirement_candidates,
 };
 use std::hash::Hash;
 
-/// Appends the value that was found, if any.
-fn push_found<T: Drop>(list: &mut Vec<T>, found: Option<T>) -> Result<(), Exhausted>
-    ensures pushed { OnOk result (list.new.items ≡ list.old.items ++ option_to_list found) }
-    ensures memory { IfErr result (λ e. e ≡ Exhausted.Memory) }
+/// Returns the requirement that a clause states, if any.
+fn required_by<N, S>(kind: &ClauseKind<N, S>) -> Option<Requirement>
+    ensures { (u : Universe N S) → option_map_or (candidates_of u) result [] ≡ wanted u kind.now }
 {
-    match found {
-        Some(member) => {
-            list.push(member)?;
-            Ok(())
-        }
-        None => Ok(()),
+    match kind {
+        ClauseKind::Requires { requirement, .. } => Some(*requirement),
+        ClauseKind::GateRequires { requirement } => Some(*requirement),
+        _ => None,
     }
 }
 
@@ -74,54 +73,35 @@ fn is_out_of_reach<N: Copy + Eq + Hash + Drop, S: Copy + Eq + Hash + Drop>(
 impl<N: Copy + Eq + Hash + Drop, S: Copy + Eq + Hash + Drop> Encoding<N, S> {
     ghost use Rattle.resolver_encoding.specs.Notes.{KeepsTrue, cache_in, notes_in};
 
-    /// Returns the solvable that a positive literal stands for, if any.
-    fn stated(&self, literal: Literal) -> Option<S>
-        ensures { result ≡ stated_by (notes_in self.now).origins literal }
+    /// Returns the requirement of the clause at a place, if it is a requirement clause.
+    fn requirement_at(&self, place: usize) -> Option<Requirement>
+        ensures { (u : Universe N S) → option_map_or (candidates_of u) result [] ≡ candidates_at u (notes_in self.now) place }
     {
-        if !literal.is_positive() {
-            return None;
-        }
-        as_solvable(self.table.variables.origin(literal.variable()))
-    }
-
-    /// Returns the literals of a clause, none if there is no such clause.
-    fn literals_of(&self, number: usize) -> &[Literal]
-        ensures { result.now ≡ clause_at (notes_in self.now).table number }
-    {
-        let clauses = self.table.literals();
-        if number >= clauses.len() {
-            return &[];
-        }
-        clause(clauses, number)
-    }
-
-    /// Returns the literals of the requirement clause at a place, none if there is no such place.
-    fn literals_at(&self, place: usize) -> &[Literal]
-        ensures { result.now ≡ literals_at (notes_in self.now) place }
-    {
-        match self.table.requirements().get(place) {
-            Some(asking) => self.literals_of(asking.number as usize),
-            None => &[],
+        match self.table.kinds().get(place) {
+            Some(kind) => required_by(kind),
+            None => None,
         }
     }
 
-    /// Returns the candidates of the requirement clause at a place.
-    fn listed_candidates(&self, place: usize) -> Result<Vec<S>, Exhausted>
-        ensures candidates { IfOk result (λ list. list.items ≡ candidates_at (notes_in self.now) place) }
-        ensures memory { IfErr result (λ e. e ≡ Exhausted.Memory) }
+    /// Returns the candidates of the clause at a place, none if it is no requirement clause.
+    fn listed_candidates<D: DependencyProvider<NameId = N, SolvableId = S>>(
+        &mut self,
+        provider: &D,
+        place: usize,
+    ) -> Result<Vec<S>, Interrupted<D::Cancel>>
+        requires is_true { IsTrueCache (D.universe provider.now) (cache_in self.old) }
+        ensures room { KeepsTrue (D.universe provider.now) self.old self.new }
+        ensures same { notes_in self.new ≡ notes_in self.old }
+        ensures candidates { IfOk result (λ list. list.items ≡ candidates_at (D.universe provider.now) (notes_in self.old) place) }
+        ensures refusal { IfErr result (IsInterruption (D.may_cancel provider.now)) }
     {
-        let mut candidates = Vec::new(self.alloc);
-        for literal in self.literals_at(place) {
-            push_found(&mut candidates, self.stated(*literal))?;
+        match self.requirement_at(place) {
+            Some(requirement) => {
+                let candidates = requirement_candidates(&mut self.cache, provider, requirement)?;
+                Ok(candidates)
+            }
+            None => Ok(Vec::new(self.alloc)),
         }
-        Ok(candidates)
-    }
-
-    /// Returns the number of requirement clauses.
-    pub(super) fn requirement_count(&self) -> usize
-        ensures { result ≡ length (notes_in self.now).requirements }
-    {
-        self.table.requirements().len()
     }
 
     /// Reads a registered candidate if its dependencies are available, unless it was read before.
@@ -189,7 +169,7 @@ impl<N: Copy + Eq + Hash + Drop, S: Copy + Eq + Hash + Drop> Encoding<N, S> {
         Ok(next)
     }
 
-    /// Reads those candidates of the requirement clause at a place whose dependencies are available.
+    /// Reads those candidates of the clause at a place whose dependencies are available.
     fn read_candidates<D: DependencyProvider<NameId = N, SolvableId = S>>(
         &mut self,
         provider: &D,
@@ -199,11 +179,11 @@ impl<N: Copy + Eq + Hash + Drop, S: Copy + Eq + Hash + Drop> Encoding<N, S> {
     ) -> Result<(), Interrupted<D::Cancel>>
         requires is_true { IsTrueCache (D.universe provider.now) (cache_in self.old) }
         requires half { IsHalfReading (D.universe provider.now) (notes_in self.old) }
-        requires listed { candidates.now ≡ candidates_at (notes_in self.old) place }
-        requires within { place < length (notes_in self.old).requirements }
+        requires listed { candidates.now ≡ candidates_at (D.universe provider.now) (notes_in self.old) place }
+        requires within { place < length (notes_in self.old).kinds }
         ensures room { KeepsTrue (D.universe provider.now) self.old self.new }
         ensures reading { OnOk result (IsHintedReading (D.universe provider.now) chosen.now.keys place (notes_in self.old) (notes_in self.new)) }
-        ensures here { OnOk result (AreReadIfHinted (D.universe provider.now) (notes_in self.new) (candidates_at (notes_in self.new) place)) }
+        ensures here { OnOk result (AreReadIfHinted (D.universe provider.now) (notes_in self.new) (candidates_at (D.universe provider.now) (notes_in self.new) place)) }
         ensures more { OnOk result (IsMoreOrSame (notes_in self.old) (notes_in self.new)) }
         ensures refusal { IfErr result (IsStop (D.may_cancel provider.now) (IsFull (notes_in self.new))) }
     {
@@ -214,7 +194,7 @@ impl<N: Copy + Eq + Hash + Drop, S: Copy + Eq + Hash + Drop> Encoding<N, S> {
         Ok(())
     }
 
-    /// Reads each candidate of the requirement clause at a place whose dependencies are available.
+    /// Reads each candidate of the clause at a place whose dependencies are available.
     fn read_hinted_at<D: DependencyProvider<NameId = N, SolvableId = S>>(
         &mut self,
         provider: &D,
@@ -223,19 +203,19 @@ impl<N: Copy + Eq + Hash + Drop, S: Copy + Eq + Hash + Drop> Encoding<N, S> {
     ) -> Result<(), Interrupted<D::Cancel>>
         requires is_true { IsTrueCache (D.universe provider.now) (cache_in self.old) }
         requires half { IsHalfReading (D.universe provider.now) (notes_in self.old) }
-        requires within { place < length (notes_in self.old).requirements }
+        requires within { place < length (notes_in self.old).kinds }
         ensures room { KeepsTrue (D.universe provider.now) self.old self.new }
         ensures reading { OnOk result (IsHintedReading (D.universe provider.now) chosen.now.keys place (notes_in self.old) (notes_in self.new)) }
-        ensures here { OnOk result (AreReadIfHinted (D.universe provider.now) (notes_in self.new) (candidates_at (notes_in self.new) place)) }
+        ensures here { OnOk result (AreReadIfHinted (D.universe provider.now) (notes_in self.new) (candidates_at (D.universe provider.now) (notes_in self.new) place)) }
         ensures more { OnOk result (IsMoreOrSame (notes_in self.old) (notes_in self.new)) }
         ensures refusal { IfErr result (IsStop (D.may_cancel provider.now) (IsFull (notes_in self.new))) }
     {
-        let candidates = self.listed_candidates(place)?;
+        let candidates = self.listed_candidates(provider, place)?;
         self.read_candidates(provider, chosen, place, &candidates)?;
         Ok(())
     }
 
-    /// Reads each candidate of the requirement clauses between two places whose dependencies are available.
+    /// Reads each candidate of the clauses between two places whose dependencies are available.
     ///
     /// Returns whether any candidate was new.
     fn read_hinted_each<D: DependencyProvider<NameId = N, SolvableId = S>>(
@@ -247,7 +227,7 @@ impl<N: Copy + Eq + Hash + Drop, S: Copy + Eq + Hash + Drop> Encoding<N, S> {
     ) -> Result<bool, Interrupted<D::Cancel>>
         requires is_true { IsTrueCache (D.universe provider.now) (cache_in self.old) }
         requires half { IsHalfReading (D.universe provider.now) (notes_in self.old) }
-        requires within { until ≤ length (notes_in self.old).requirements }
+        requires within { until ≤ length (notes_in self.old).kinds }
         ensures room { KeepsTrue (D.universe provider.now) self.old self.new }
         ensures reading { OnOk result (IsHintedReading (D.universe provider.now) chosen.now.keys from (notes_in self.old) (notes_in self.new)) }
         ensures here { OnOk result (AreHintsReadTo (D.universe provider.now) from until (notes_in self.new)) }
@@ -266,7 +246,7 @@ impl<N: Copy + Eq + Hash + Drop, S: Copy + Eq + Hash + Drop> Encoding<N, S> {
         Ok(false)
     }
 
-    /// Reads each candidate of the requirement clauses from a place on whose dependencies are available, and so on for
+    /// Reads each candidate of the clauses from a place on whose dependencies are available, and so on for
     /// the clauses that this adds.
     ///
     /// Clauses are taken in their order. Returns whether any candidate was new.
@@ -278,7 +258,7 @@ impl<N: Copy + Eq + Hash + Drop, S: Copy + Eq + Hash + Drop> Encoding<N, S> {
     ) -> Result<bool, Interrupted<D::Cancel>>
         requires is_true { IsTrueCache (D.universe provider.now) (cache_in self.old) }
         requires half { IsHalfReading (D.universe provider.now) (notes_in self.old) }
-        requires within { from ≤ length (notes_in self.old).requirements }
+        requires within { from ≤ length (notes_in self.old).kinds }
         ensures room { KeepsTrue (D.universe provider.now) self.old self.new }
         ensures reading { OnOk result (IsHintedReading (D.universe provider.now) chosen.now.keys from (notes_in self.old) (notes_in self.new)) }
         ensures here { OnOk result (AreHintsRead (D.universe provider.now) from (notes_in self.new)) }
@@ -289,7 +269,7 @@ impl<N: Copy + Eq + Hash + Drop, S: Copy + Eq + Hash + Drop> Encoding<N, S> {
         let mut place = from;
         let mut any = false;
         'waves: loop {
-            let until = self.requirement_count();
+            let until = self.clause_count();
             if !self.read_hinted_each(provider, chosen, place, until)? {
                 return Ok(any);
             }

@@ -299,7 +299,7 @@ impl<N: Copy + Eq + Hash + Drop, S: Copy + Eq + Hash + Drop> Encoding<N, S> {
             (AsksCalled (D.universe provider.now) [] root [] (notes_in self.new)) }
         ensures near { let root = demands_with requirements.now constraints.now in OnOk result
             (AreNearAny (D.universe provider.now) root (notes_in self.new)) }
-        ensures reads { OnOk result ((s : S) → Contains (notes_in self.new).read s → IsListedFrom (notes_in self.new) 0 s) }
+        ensures reads { OnOk result ((s : S) → Contains (notes_in self.new).read s → IsListedFrom (D.universe provider.now) (notes_in self.new) 0 s) }
         ensures hinted { OnOk result (AreHintsRead (D.universe provider.now) 0 (notes_in self.new)) }
         ensures exempt { OnOk result ((notes_in self.new).exempt ≡ (notes_in self.old).exempt) }
         ensures limits { KeepsTrue (D.universe provider.now) self.old self.new }
@@ -337,14 +337,14 @@ impl<N: Copy + Eq + Hash + Drop, S: Copy + Eq + Hash + Drop> Encoding<N, S> {
             (AsksOn (D.universe provider.now) set (take from set) (notes_in self.old) (notes_in self.new)) }
         ensures near { let set = chosen.now.keys in OnOk result
             (StaysNear (D.universe provider.now) set (take from set) (notes_in self.old) (notes_in self.new)) }
-        ensures hinted { OnOk result (AreHintsRead (D.universe provider.now) (length (notes_in self.old).requirements) (notes_in self.new)) }
+        ensures hinted { OnOk result (AreHintsRead (D.universe provider.now) (length (notes_in self.old).kinds) (notes_in self.new)) }
         ensures more { OnOk result (IsReadMore (D.universe provider.now) chosen.now.keys (notes_in self.old) (notes_in self.new)) }
         ensures progress { IfOk result (IsProgress (notes_in self.old) (notes_in self.new)) }
         ensures fit { OnOk result (length (notes_in self.new).read ≤ (notes_in self.new).variable_limit) }
         ensures limits { KeepsTrue (D.universe provider.now) self.old self.new }
         ensures refusal { IfErr result (IsStop (D.may_cancel provider.now) (IsFull (notes_in self.new))) }
     {
-        let clauses = self.requirement_count();
+        let clauses = self.clause_count();
         let read = self.read_each(provider, chosen, from)?;
         let fired = self.fire_deferred(provider, chosen, from)?;
         let hinted = self.read_hinted(provider, chosen, clauses)?;

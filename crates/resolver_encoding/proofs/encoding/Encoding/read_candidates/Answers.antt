@@ -1,6 +1,5 @@
 use Rattle.std.proofs.Common.{◌∙◌, Contains, List, arith, inl, refl, subst, sym}
 use Rattle.std.proofs.lemmas.List.Elements.{All-nil}
-use Rattle.resolver_clause_store.proofs.PlaceLemmas.{Keeps-trans}
 use Rattle.resolver_clause_store.proofs.SetLemmas.{All-done}
 use Rattle.resolver_encoding.specs.Hints.{AreReadIfHinted, IsHinted}
 use Rattle.resolver_encoding.specs.Notes.{notes_in}
@@ -50,14 +49,12 @@ loop-candidate-preserved g c =
     let inside : Contains c.args.candidates.now s = (c.loop-candidate.candidate-index, omega arith, sym c.candidate-item.is) in
     let listed = subst Among c.requires.listed inside in
     let seen = Extends-within one.seen two.seen first.growth.seen s (candidates_seen u half.root one half.half.encoding c.args.place s listed) in
-    let now = hinted_one u set half.root c.args.place s one two three half.half c.requires.within listed
-    (Keeps-trans one.origins two.origins three.origins first.growth.origins reading.growth.origins)
-    (Extends-trans one.table two.table three.table first.growth.table reading.growth.table)
-    (Extends-trans one.requirements two.requirements three.requirements first.growth.requirements reading.growth.requirements) seen reading in
+    let now = hinted_one u set c.args.place s one two three c.requires.within listed
+    (Extends-trans one.kinds two.kinds three.kinds first.growth.numbered reading.growth.numbered) seen reading in
     record {
       room = KeepsTrue-trans _ _ _ before.room c.read_candidate.ensures.room;
       half = record { root = before.half.root; half = reading.keeps before.half.root before.half.half };
-      reading = hinted_trans u set half.root c.args.place one two three half.half before.reading now;
+      reading = hinted_trans u set c.args.place one two three before.reading now;
       read = All-grown (λ t. IsHinted u t → Contains two.read t) (λ t.
           IsHinted u t → Contains three.read t) c.args.candidates.now c.loop-candidate.candidate-index s (λ t h hinted.
           Extends-within two.read three.read reading.read t (h hinted)) (omega arith) c.candidate-item.is before.read c.in_ok-hintless.ensures.here;
@@ -68,11 +65,10 @@ loop-candidate-preserved g c =
 pub returns-clause-here : goal.returns-clause-here
 returns-clause-here g c =
     let u = g.D.Interner.universe c.args.provider.now in
-    let half = c.requires.half in
     let one = notes_in c.args.self.now in
     let new = notes_in c.loop-candidate.self in
     let reading = c.loop-candidate.invariant.reading.reading in
-    let same = candidates_same u half.root one new half.half.encoding reading.growth.origins reading.growth.table reading.growth.requirements c.args.place c.requires.within in
+    let same = candidates_same u one new reading.growth.numbered c.args.place c.requires.within in
     let Done : List g.row.S.Denot → Type 0 = λ list. AreReadIfHinted u new list in
     subst Done (c.requires.listed ∙ sym same)
     (All-done (λ t. IsHinted u t → Contains new.read t) c.args.candidates.now c.loop-candidate.candidate-index

@@ -31,9 +31,9 @@ pub read_hinted-requires-clause-within : goal.read_hinted-requires-clause-within
 read_hinted-requires-clause-within g c = let old = notes_in c.args.self.now in
     let mid = notes_in c.read_each.new.self in
     let fired = notes_in c.fire_deferred.new.self in
-    let first : length old.requirements ≤ length mid.requirements = longer old.requirements mid.requirements c.in_ok-read.ensures.reading.growth.requirements in
-    let second : length mid.requirements ≤ length fired.requirements = longer mid.requirements fired.requirements c.in_ok-fired.ensures.firing.growth.requirements in
-    let size : c.requirement_count-clauses.result ≡ length old.requirements = c.requirement_count-clauses.ensures in
+    let first : length old.kinds ≤ length mid.kinds = longer old.kinds mid.kinds c.in_ok-read.ensures.reading.growth.numbered in
+    let second : length mid.kinds ≤ length fired.kinds = longer mid.kinds fired.kinds c.in_ok-fired.ensures.firing.growth.numbered in
+    let size : c.clause_count-clauses.result ≡ length old.kinds = c.clause_count-clauses.ensures in
     omega (arith, first, second, size)
 
 pub returns : goal.returns
@@ -49,9 +49,9 @@ returns g c =
           let reading = c.in_ok-read.ensures.reading in
           let firing = c.in_ok-fired.ensures.firing in
           let From : ℕ → Type 0 = λ n. IsHintedReading u set n fired new in
-          let hinted = subst From c.requirement_count-clauses.ensures c.in_ok-hinted.ensures.reading in
+          let hinted = subst From c.clause_count-clauses.ensures c.in_ok-hinted.ensures.reading in
           let half = reading.keeps root so.half in
-          so_far_on u set root (IsListedFrom new (length old.requirements)) fired new
+          so_far_on u set root (IsListedFrom u new (length old.kinds)) fired new
           (so_far u set old mid fired reading firing root c.args.from so c.in_ok-read.ensures.here
           (c.in_ok-fired.ensures.quiet half.encoding.sound_deferred_by_name)
           (lawful_solvables u g.S.PartialEq.eq (g.met.D.Interner.lawful_ids c.args.provider.now)
@@ -68,14 +68,14 @@ returns g c =
           let reading = c.in_ok-read.ensures.reading in
           let firing = c.in_ok-fired.ensures.firing in
           let From : ℕ → Type 0 = λ n. IsHintedReading u set n fired new in
-          let hinted = subst From c.requirement_count-clauses.ensures c.in_ok-hinted.ensures.reading in
+          let hinted = subst From c.clause_count-clauses.ensures c.in_ok-hinted.ensures.reading in
           let half = reading.keeps root so.half in
           let quiet = c.in_ok-fired.ensures.quiet half.encoding.sound_deferred_by_name in
           let lawful = lawful_solvables u g.S.PartialEq.eq (g.met.D.Interner.lawful_ids c.args.provider.now)
           (g.met.D.Interner.solvables_compare c.args.provider.now) g.met.D.Interner.solvables_are_values in
           let packages = g.met.D.DependencyProvider.lawful_packages c.args.provider.now in
           let here = c.in_ok-read.ensures.here in
-          asked_on u set root (IsListedFrom new (length old.requirements)) old.asked fired new
+          asked_on u set root (IsListedFrom u new (length old.kinds)) old.asked fired new
           (so_far u set old mid fired reading firing root c.args.from so here quiet lawful packages)
           hinted.reading
           (all_asked u set old mid fired reading firing root c.args.from so here quiet lawful packages);
@@ -86,7 +86,7 @@ returns g c =
           all;
       hinted = let u = g.D.Interner.universe c.args.provider.now in
           let From : ℕ → Type 0 = λ n. AreHintsRead u n (notes_in c.read_hinted.new.self) in
-          subst From c.requirement_count-clauses.ensures c.in_ok-hinted.ensures.here;
+          subst From c.clause_count-clauses.ensures c.in_ok-hinted.ensures.here;
       more = let u = g.D.Interner.universe c.args.provider.now in
           let set = c.args.chosen.now.keys in
           let old = notes_in c.args.self.now in
@@ -96,10 +96,8 @@ returns g c =
           let reading = c.in_ok-read.ensures.reading in
           let firing = c.in_ok-fired.ensures.firing in
           let From : ℕ → Type 0 = λ n. IsHintedReading u set n fired new in
-          let hinted = subst From c.requirement_count-clauses.ensures c.in_ok-hinted.ensures.reading in
-          let before = c.requires.reading in
-          let half = firing_half u set mid fired firing before.root (reading.keeps before.root before.so_far.half) in
-          more_on u set before.root old fired new half.encoding (read_more u set old mid fired reading firing) hinted.reading;
+          let hinted = subst From c.clause_count-clauses.ensures c.in_ok-hinted.ensures.reading in
+          more_on u set old fired new (read_more u set old mid fired reading firing) hinted.reading;
       progress = let u = g.D.Interner.universe c.args.provider.now in
           let set = c.args.chosen.now.keys in
           let old = notes_in c.args.self.now in

@@ -32,18 +32,18 @@ waves-preserved g c =
     let found = c.in_ok-read_hinted_each.ensures in
     let reading = found.reading.reading in
     let Was : Bool → Type 0 = λ b. HasRead two three b in
-    let size : c.requirement_count-until.result ≡ length two.requirements = c.requirement_count-until.ensures in
+    let size : c.clause_count-until.result ≡ length two.kinds = c.clause_count-until.ensures in
     let now : HasRead two three true = subst Was c.if-not-branch.false found.any_new in
-    let more : length two.requirements ≤ length three.requirements = longer two.requirements three.requirements reading.growth.requirements in
+    let more : length two.kinds ≤ length three.kinds = longer two.kinds three.kinds reading.growth.numbered in
     record {
       room = KeepsTrue-trans _ _ _ before.room c.read_hinted_each.ensures.room;
       half = record { root = before.half.root; half = reading.keeps before.half.root before.half.half };
-      reading = hinted_trans u set c.requires.half.root c.args.from one two three c.requires.half.half before.reading
+      reading = hinted_trans u set c.args.from one two three before.reading
           (hinted_later u set c.args.from c.waves.place before.forward two three found.reading);
       forward = omega (arith, before.forward, before.within, size);
       within = omega (arith, size, more);
-      read = hints_joined u c.args.from c.waves.place c.requirement_count-until.result three
-          (hints_grown u before.half.root two three before.half.half.encoding reading.growth.origins reading.growth.table reading.growth.requirements reading.read c.args.from
+      read = hints_joined u c.args.from c.waves.place c.clause_count-until.result three
+          (hints_grown u two three reading.growth.numbered reading.read c.args.from
           c.waves.place before.within before.read)
           found.here;
       any_new = HasRead-then one two three c.waves.any before.any_new now;
@@ -67,13 +67,13 @@ returns-then-not-branch-clause-here g c =
     let found = c.in_ok-read_hinted_each.ensures in
     let reading = found.reading.reading in
     let Was : Bool → Type 0 = λ b. HasRead two three b in
-    let size : c.requirement_count-until.result ≡ length two.requirements = c.requirement_count-until.ensures in
+    let size : c.clause_count-until.result ≡ length two.kinds = c.clause_count-until.ensures in
     let same : three ≡ two = subst Was c.if-not-branch.true found.any_new in
-    let end : c.requirement_count-until.result ≡ length three.requirements = size ∙
-    ap (λ (n : Notes g.row.N.Denot g.row.S.Denot). length n.requirements) (sym same) in
+    let end : c.clause_count-until.result ≡ length three.kinds = size ∙
+    ap (λ (n : Notes g.row.N.Denot g.row.S.Denot). length n.kinds) (sym same) in
     let To : ℕ → Type 0 = λ n. AreHintsReadTo u c.args.from n three in
-    subst To end (hints_joined u c.args.from c.waves.place c.requirement_count-until.result three
-    (hints_grown u before.half.root two three before.half.half.encoding reading.growth.origins reading.growth.table reading.growth.requirements reading.read c.args.from
+    subst To end (hints_joined u c.args.from c.waves.place c.clause_count-until.result three
+    (hints_grown u two three reading.growth.numbered reading.read c.args.from
     c.waves.place before.within before.read)
     found.here)
 
@@ -86,7 +86,7 @@ returns-then-not-branch-clause-reading g c =
     let three = notes_in c.read_hinted_each.new.self in
     let before = c.waves.invariant in
     let found = c.in_ok-read_hinted_each.ensures in
-    hinted_trans u set c.requires.half.root c.args.from one two three c.requires.half.half before.reading
+    hinted_trans u set c.args.from one two three before.reading
     (hinted_later u set c.args.from c.waves.place before.forward two three found.reading)
 
 pub returns-then-not-branch-clause-any_new : goal.returns-then-not-branch-clause-any_new

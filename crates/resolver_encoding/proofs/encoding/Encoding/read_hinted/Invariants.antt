@@ -10,7 +10,7 @@ invariant-waves g l = record {
   half : IsHalfReading (g.D.Interner.universe l.provider) (notes_in l.self);
   reading : IsHintedReading (g.D.Interner.universe l.provider) l.chosen.keys l.from (notes_in l.fn.self) (notes_in l.self);
   forward : l.from ≤ l.place;
-  within : l.place ≤ length (notes_in l.self).requirements;
+  within : l.place ≤ length (notes_in l.self).kinds;
   read : AreHintsReadTo (g.D.Interner.universe l.provider) l.from l.place (notes_in l.self);
   any_new : HasRead (notes_in l.fn.self) (notes_in l.self) l.any;
 }

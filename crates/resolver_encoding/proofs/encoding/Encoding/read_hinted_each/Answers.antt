@@ -20,8 +20,8 @@ loop-place-init g c =
 pub read_hinted_at-requires-clause-within : goal.read_hinted_at-requires-clause-within
 read_hinted_at-requires-clause-within g c =
     let old = notes_in c.args.self.now in
-    let more : length old.requirements ≤ length (notes_in c.loop-place.self).requirements =
-    longer old.requirements (notes_in c.loop-place.self).requirements c.loop-place.invariant.reading.reading.growth.requirements in
+    let more : length old.kinds ≤ length (notes_in c.loop-place.self).kinds =
+    longer old.kinds (notes_in c.loop-place.self).kinds c.loop-place.invariant.reading.reading.growth.numbered in
     omega (arith, more, c.requires.within)
 
 pub loop-place-preserved : goal.loop-place-preserved
@@ -35,14 +35,14 @@ loop-place-preserved g c =
     let here = c.in_ok-read_hinted_at.ensures.reading in
     let reading = here.reading in
     let half = before.half in
-    let more : length one.requirements ≤ length two.requirements = longer one.requirements two.requirements before.reading.reading.growth.requirements in
+    let more : length one.kinds ≤ length two.kinds = longer one.kinds two.kinds before.reading.reading.growth.numbered in
     record {
       room = KeepsTrue-trans _ _ _ before.room c.read_hinted_at.ensures.room;
       half = record { root = half.root; half = reading.keeps half.root half.half };
-      reading = hinted_trans u set c.requires.half.root c.args.from one two three c.requires.half.half before.reading
+      reading = hinted_trans u set c.args.from one two three before.reading
           (hinted_later u set c.args.from c.loop-place.place (omega arith) two three here);
       read = hints_joined u c.args.from c.loop-place.place (c.loop-place.place + 1) three
-          (hints_grown u half.root two three half.half.encoding reading.growth.origins reading.growth.table reading.growth.requirements reading.read c.args.from c.loop-place.place
+          (hints_grown u two three reading.growth.numbered reading.read c.args.from c.loop-place.place
           (omega (arith, more, c.requires.within)) before.read)
           (hints_at u c.loop-place.place three c.in_ok-read_hinted_at.ensures.here);
       more = IsMoreOrSame-trans _ _ _ before.more c.in_ok-read_hinted_at.ensures.more;

@@ -39,11 +39,11 @@ returns g c =
           let new = notes_in c.read_hinted.new.self in
           let Step : List g.row.S.Denot → Type 0 = λ set. IsDemandsStep u set Root root bare mid in
           let step = subst Step c.new-none.ensures.empty c.in_ok-read_demands.ensures.step in
-          let Reading : List g.row.S.Denot → Type 0 = λ set. IsReadingOf u set (IsListedFrom new 0) mid new in
+          let Reading : List g.row.S.Denot → Type 0 = λ set. IsReadingOf u set (IsListedFrom u new 0) mid new in
           let reading = subst Reading c.new-none.ensures.empty c.in_ok-read_hinted.ensures.reading.reading in
           let so = root_so_far u root bare mid step c.in_ok-install_root.ensures.nothing
           (c.in_ok-install_root.ensures.installed root) c.in_ok-read_demands.ensures.read in
-          so_far_on u [] root (IsListedFrom new 0) mid new so reading;
+          so_far_on u [] root (IsListedFrom u new 0) mid new so reading;
       asked = let u = g.D.Interner.universe c.args.provider.now in
           let root = demands_with c.args.requirements.now c.args.constraints.now in
           let bare = notes_in c.install_root.new.self in
@@ -51,7 +51,7 @@ returns g c =
           let new = notes_in c.read_hinted.new.self in
           let Step : List g.row.S.Denot → Type 0 = λ set. IsDemandsStep u set Root root bare mid in
           let step = subst Step c.new-none.ensures.empty c.in_ok-read_demands.ensures.step in
-          let Reading : List g.row.S.Denot → Type 0 = λ set. IsReadingOf u set (IsListedFrom new 0) mid new in
+          let Reading : List g.row.S.Denot → Type 0 = λ set. IsReadingOf u set (IsListedFrom u new 0) mid new in
           let reading = subst Reading c.new-none.ensures.empty c.in_ok-read_hinted.ensures.reading.reading in
           let so = root_so_far u root bare mid step c.in_ok-install_root.ensures.nothing
           (c.in_ok-install_root.ensures.installed root) c.in_ok-read_demands.ensures.read in
@@ -59,7 +59,7 @@ returns g c =
           let asked = root_asked u root bare mid step c.in_ok-install_root.ensures.nothing
           (c.in_ok-install_root.ensures.installed root) c.in_ok-read_demands.ensures.read in
           let none : mid.read ≡ [] = step.read ∙ c.in_ok-install_root.ensures.nothing.none_read in
-          asked_on u [] root (IsListedFrom new 0) [] mid new so reading (subst Asked (sym none) asked);
+          asked_on u [] root (IsListedFrom u new 0) [] mid new so reading (subst Asked (sym none) asked);
       near = λ seeds packages.
           let u = g.D.Interner.universe c.args.provider.now in
           let root = demands_with c.args.requirements.now c.args.constraints.now in
