@@ -6,6 +6,7 @@
 ghost use Rattle.std.specs.Prelude.{◌≡◌, IfErr, IfOk, Some, refl, string_bytes};
 ghost use Rattle.resolver_clause_store.specs.Laws.{numbers_are_values};
 ghost use Rattle.resolve.specs.WorkedProvider.{
+  is_of as belongs_to,
   listed_in,
   name_at,
   range_takes,
@@ -131,6 +132,13 @@ fn version_set_of(version_set: VersionSetId) -> (u32, Range)
     }
 }
 
+/// Returns whether a release is one of a package.
+fn is_of(name: u32, solvable: u32) -> bool
+    ensures { result ≡ belongs_to name solvable }
+{
+    release_of(solvable).0 == name
+}
+
 /// Returns the ids of a package's releases, the newest first.
 fn releases_of(alloc: Global, name: u32) -> Result<Vec<u32>, Exhausted>
     ensures listed { IfOk result (λ listed. listed.items ≡ listed_in name) }
@@ -138,7 +146,7 @@ fn releases_of(alloc: Global, name: u32) -> Result<Vec<u32>, Exhausted>
 {
     let mut listed = Vec::new(alloc);
     for solvable in 0..RELEASES.len() as u32 {
-        if release_of(solvable).0 == name {
+        if is_of(name, solvable) {
             listed.push(solvable)?;
         }
     }
