@@ -16,7 +16,7 @@ use Rattle.resolver_clause_store.specs.declared.By.TheVariants.{Solvable as BySo
 use Rattle.resolver_clause_store.specs.Literals.{Literal}
 use Rattle.resolver_clause_store.specs.declared.Origin.{Origin}
 use Rattle.resolver_clause_store.specs.declared.RequirementClause.{RequirementClause}
-use Rattle.resolver_clause_store.specs.declared.Origin.TheVariants.{Root, Solvable, Bit, Gate, ConstraintHelper, ConditionHelper}
+use Rattle.resolver_clause_store.specs.declared.Origin.TheVariants.{Root, Solvable, Helper}
 use Rattle.resolver_encoding.specs.Called.{AreAsked, IsCalledFor, to_ask}
 use Rattle.resolver_encoding.specs.Encodings.{Extends, IsEncoding, IsLeft, Notes}
 use Rattle.resolver_encoding.specs.Hints.{AreHintsReadTo, AreReadIfHinted, HintsAtNone, IsHinted, IsListedFrom, candidates_at, literals_at, stated_by, stated_by_each}
@@ -61,10 +61,7 @@ module _ {N S : Type 0} where
   found_is (Some (Solvable t)) true s h =
       ⊎_elim (λ (is : t ≡ s). (refl, ap (λ q. Some (Solvable q)) is)) (λ (none : Contains [] s). absurd (none_in s none)) (cons_cases t [] s h)
   found_is (Some Root) true s h = absurd (none_in s h)
-  found_is (Some (Bit n i)) true s h = absurd (none_in s h)
-  found_is (Some (Gate r)) true s h = absurd (none_in s h)
-  found_is (Some (ConstraintHelper v)) true s h = absurd (none_in s h)
-  found_is (Some (ConditionHelper v)) true s h = absurd (none_in s h)
+  found_is (Some (Helper g)) true s h = absurd (none_in s h)
   found_is None true s h = absurd (none_in s h)
   found_is o false s h = absurd (none_in s h)
 
