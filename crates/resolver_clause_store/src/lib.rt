@@ -44,7 +44,7 @@ pub use data::{
 pub use decisions::Choice;
 pub use ids::{ConditionId, StringId, VersionSetId, VersionSetUnionId};
 pub use index_sets::{append, is_among, place_of};
-pub use kinds::{ClauseKind, Disjunct, Origin};
+pub use kinds::{ClauseKind, Helper, Origin};
 pub use laws::{
     a_run_over_nothing_is_its_first_answer, first_choices_are_least_closed,
     the_need_closure_is_least_closed,

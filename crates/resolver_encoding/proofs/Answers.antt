@@ -1,9 +1,9 @@
 -- A trail that leaves nothing to set gives an answer.
 use Rattle.resolver_encoding.specs.Truth.{HasLawfulSolvables}
-use Rattle.std.proofs.Common.{◌≡◌, ◌≢◌, ◌⊎◌, List, [], ◌∷◌, Bool, true, false, inl, inr, refl, sym, ap, ◌∙◌, subst, ⊎_elim, Contains}
-use Rattle.std.specs.Prelude.{not, map}
+use Rattle.std.proofs.Common.{◌≡◌, ◌≢◌, ◌⊎◌, List, [], ◌∷◌, Bool, true, false, inl, inr, refl, sym, ap, ◌∙◌, subst, ⊎_elim, All, Contains}
+use Rattle.std.specs.Prelude.{None, Some, not, map}
 use Rattle.std.proofs.lemmas.Bool.{cases_Bool, both_ways}
-use Rattle.std.proofs.lemmas.List.Elements.{All-contains, Contains-get_or}
+use Rattle.std.proofs.lemmas.List.Elements.{All-contains, All-nil, Contains-get_or}
 use Rattle.resolver_clause_store.specs.Lists.{Meets}
 use Rattle.resolver_clause_store.specs.Universe.{Universe, Demands, Needs, known, unknown}
 use Rattle.resolver_clause_store.specs.Candidates.{matching, others, requirement_candidates}
@@ -16,11 +16,13 @@ use Rattle.resolver_clause_store.specs.declared.By.{By}
 use Rattle.resolver_clause_store.specs.declared.By.TheVariants.{Root as ByRoot, Solvable as BySolvable}
 use Rattle.resolver_clause_store.specs.Statements.{IsPresent}
 use Rattle.resolver_clause_store.specs.TrueRules.{demands_by}
+use Rattle.resolver_clause_store.specs.declared.Helper.{Helper as HelperOf}
 use Rattle.resolver_clause_store.specs.declared.Origin.{Origin}
-use Rattle.resolver_clause_store.specs.declared.Origin.TheVariants.{Root, Solvable, Bit, Gate, ConstraintHelper, ConditionHelper}
+use Rattle.resolver_clause_store.specs.declared.ClauseKind.TheVariants.{Implies, Constrains, Lock, Excluded}
+use Rattle.resolver_clause_store.specs.declared.Helper.TheVariants.{Bit, Gate, Constraint, Condition}
+use Rattle.resolver_clause_store.specs.declared.Origin.TheVariants.{Root, Solvable, Helper}
 use Rattle.resolver_clause_store.specs.declared.ClauseKind.{ClauseKind}
-use Rattle.resolver_clause_store.specs.declared.ClauseKind.TheVariants.{AnyOf, Constrains, ConstrainsExcluded, ConstrainsParent, HasBit, Lock, Excluded}
-use Rattle.resolver_encoding.specs.Atoms.{IsHelper, Atom, atom, origin_by, atoms_of}
+use Rattle.resolver_encoding.specs.Atoms.{Atom, atom, atoms_of, origin_by}
 use Rattle.resolver_encoding.specs.Read.{AreValuesSettled, CoversChosen, IsClosedPart, IsMade, made_direct, made_gated, IsForbidden, forbidden_direct}
 use Rattle.resolver_encoding.specs.Read.{forbidden_helped}
 use Rattle.resolver_clause_store.proofs.ListLemmas.{Contains-cons_cases as cons_cases, Contains-here as here, Contains-map, Contains-none as none_in}
@@ -50,25 +52,21 @@ module _ {N S : Type 0} (u : Universe N S) (root : Demands) (kinds : List (Claus
       (λ t. ⊎_elim (λ e. subst Off e off') (λ n. absurd (none_in q n)) (cons_cases b [] q t))
       (cons_cases a (b ∷ []) q (subst (λ (xs : List (Atom N S)). ListHas xs q) is among)))
 
-  last_of_two : (k : ClauseKind N S) (other a : Atom N S) → IsHelper a.origin → Contains kinds k → atoms_of u k ≡ other ∷ a ∷ [] →
-      Takes other.origin (not other.positive) → Takes a.origin a.positive
-  last_of_two k other a helper inside is off =
+  -- the helper of a clause whose other atom is false
+  last_of_two : (k : ClauseKind N S) (other : Atom N S) (h : HelperOf N) (value : Bool) → Contains kinds k → atoms_of u k ≡ other ∷ atom (Helper h) value ∷ [] →
+      Takes other.origin (not other.positive) → Takes (Helper h) value
+  last_of_two k other h value inside is off =
+      let a = atom (Helper h) value in
       let ListHas : List (Atom N S) → Atom N S → Type 0 = λ xs x. Contains xs x in
       let Off : Atom N S → Type 0 = λ b. Takes b.origin (not b.positive) in
-      settled.unit k a helper inside (subst (λ (xs : List (Atom N S)). ListHas xs a) (sym is) (there other (a ∷ []) a (here a [])))
+      settled.unit k h value inside (subst (λ (xs : List (Atom N S)). ListHas xs a) (sym is) (there other (a ∷ []) a (here a [])))
       (λ b among. ⊎_elim (λ e. inr (subst Off e off))
       (λ t. ⊎_elim (λ e. inl (sym e)) (λ n. absurd (none_in b n)) (cons_cases a [] b t))
       (cons_cases other (a ∷ []) b (subst (λ (xs : List (Atom N S)). ListHas xs b) is among)))
 
-  first_of_two : (k : ClauseKind N S) (a other : Atom N S) → IsHelper a.origin → Contains kinds k → atoms_of u k ≡ a ∷ other ∷ [] →
-      Takes other.origin (not other.positive) → Takes a.origin a.positive
-  first_of_two k a other helper inside is off =
-      let ListHas : List (Atom N S) → Atom N S → Type 0 = λ xs x. Contains xs x in
-      let Off : Atom N S → Type 0 = λ b. Takes b.origin (not b.positive) in
-      settled.unit k a helper inside (subst (λ (xs : List (Atom N S)). ListHas xs a) (sym is) (here a (other ∷ [])))
-      (λ b among. ⊎_elim (λ e. inl (sym e))
-      (λ t. ⊎_elim (λ e. inr (subst Off e off)) (λ n. absurd (none_in b n)) (cons_cases other [] b t))
-      (cons_cases a (other ∷ []) b (subst (λ (xs : List (Atom N S)). ListHas xs b) is among)))
+  -- a true solvable implies a helper
+  implied : (s : S) (h : HelperOf N) (value : Bool) → Contains kinds (Implies s h value) → Takes (Solvable s) true → Takes (Helper h) value
+  implied s h value inside on = last_of_two (Implies s h value) (atom (Solvable s) false) h value inside refl on
 
   module _ (lawful : HasLawfulSolvables u) (chosen exempt : List S) (covers : CoversChosen u root kinds chosen exempt)
       (part : IsClosedPart u kinds Takes chosen) where
@@ -78,19 +76,20 @@ module _ {N S : Type 0} (u : Universe N S) (root : Demands) (kinds : List (Claus
 
     met_by : (by : By S) (r : Requirement) → IsPresent by chosen → IsMade u kinds chosen by r → Meets (requirement_candidates u r) chosen
     met_by by r present (made_direct disjunct meets clause) =
-        let on : (v : VersionSetId) → Contains disjunct v → Meets (matching u v) chosen → Takes (ConditionHelper v) true = λ v c m.
-        first_of_two (AnyOf (ConditionHelper v) m.shared) (atom (ConditionHelper v) true) (atom (Solvable m.shared) false) tt
-        (covers.helpers by disjunct r clause v c m.shared m.in_first) refl (part.taken m.shared m.in_second) in
-        let candidate = settled.decided by disjunct r clause (taken_by by present)
-        (λ k d below. let c = Contains-get_or disjunct k d below in
-        on _ c (All-contains (λ xs. Meets xs chosen) (map (matching u) disjunct) _ meets (Contains-map (matching u) disjunct _ c))) in
+        let list = disjunct.items in
+        let on : (v : VersionSetId) → Contains list v → Meets (matching u v) chosen → Takes (Helper (Condition v)) true = λ v c m.
+        implied m.shared (Condition v) true (covers.helpers (Some by) disjunct r clause v c m.shared m.in_first) (part.taken m.shared m.in_second) in
+        let candidate = settled.decided (Some by) disjunct r clause (taken_by by present)
+        (λ k d below. let c = Contains-get_or list k d below in
+        on _ c (All-contains (λ xs. Meets xs chosen) (map (matching u) list) _ meets (Contains-map (matching u) list _ c))) in
         record { shared = candidate.0; in_first = candidate.1; in_second = part.closed by disjunct r candidate.0 clause present meets candidate.1 candidate.2 }
-    met_by by r present (made_gated s is implied clause) =
+    met_by by r present (made_gated s is clause gate) =
         let In : By S → Type 0 = λ b. IsPresent b chosen in
+        let AllTaken : List VersionSetId → Type 0 = λ list. All (λ v. Takes (Helper (Condition v)) true) list in
         let chosen_s : Contains chosen s = subst In is present in
-        let gate = first_of_two (AnyOf (Gate r) s) (atom (Gate r) true) (atom (Solvable s) false) tt implied refl (part.taken s chosen_s) in
-        let candidate = settled.decided_gate r clause gate in
-        record { shared = candidate.0; in_first = candidate.1; in_second = part.closed_gate s r candidate.0 clause chosen_s implied candidate.1 candidate.2 }
+        let candidate = settled.decided None gate.0 r gate.2 (implied s (Gate r) true clause (part.taken s chosen_s))
+        (subst AllTaken (sym gate.1) (All-nil (λ v. Takes (Helper (Condition v)) true))) in
+        record { shared = candidate.0; in_first = candidate.1; in_second = part.closed_gate s r candidate.0 chosen_s clause candidate.1 candidate.2 }
 
     met : (by : By S) (r : ConditionalRequirement) → IsPresent by chosen → Contains (demands_by u root by).requirements r → IsActive u (Contains chosen) r →
         Meets (requirement_candidates u r.requirement) chosen
@@ -98,11 +97,10 @@ module _ {N S : Type 0} (u : Universe N S) (root : Demands) (kinds : List (Claus
 
     forbidden_by : (by : By S) (v : VersionSetId) (s : S) → IsPresent by chosen → Contains chosen s → IsForbidden kinds by v s → ⊥
     forbidden_by by v s present inside (forbidden_direct clause) =
-        both_false (Constrains by v s) (atom (origin_by by) false) (atom (Solvable s) false) clause refl (taken_by by present) (part.taken s inside)
+        both_false (Constrains by v (Some s)) (atom (origin_by by) false) (atom (Solvable s) false) clause refl (taken_by by present) (part.taken s inside)
     forbidden_by by v s present inside (forbidden_helped parent excluded) =
-        let on = last_of_two (ConstrainsExcluded s v) (atom (Solvable s) false) (atom (ConstraintHelper v) true) tt excluded refl (part.taken s inside) in
-        settled.apart (ConstraintHelper v) on
-        (last_of_two (ConstrainsParent by v) (atom (origin_by by) false) (atom (ConstraintHelper v) false) tt parent refl (taken_by by present))
+        settled.apart (Helper (Constraint v)) (implied s (Constraint v) true excluded (part.taken s inside))
+        (last_of_two (Constrains by v None) (atom (origin_by by) false) (Constraint v) false parent refl (taken_by by present))
 
     not_constrained : (by : By S) (v : VersionSetId) (s : S) → IsPresent by chosen → Contains (demands_by u root by).constraints v → Contains chosen s →
         Contains (others u v) s → ⊥
@@ -110,11 +108,9 @@ module _ {N S : Type 0} (u : Universe N S) (root : Demands) (kinds : List (Claus
 
     not_apart : (n : N) (s t : S) → Contains chosen s → Contains chosen t → AreApart kinds n s t → ⊥
     not_apart n s t first second (apart_coded i true a b) =
-        settled.apart (Bit n i) (last_of_two (HasBit n s i true) (atom (Solvable s) false) (atom (Bit n i) true) tt a refl (part.taken s first))
-        (last_of_two (HasBit n t i false) (atom (Solvable t) false) (atom (Bit n i) false) tt b refl (part.taken t second))
+        settled.apart (Helper (Bit n i)) (implied s (Bit n i) true a (part.taken s first)) (implied t (Bit n i) false b (part.taken t second))
     not_apart n s t first second (apart_coded i false a b) =
-        settled.apart (Bit n i) (last_of_two (HasBit n t i true) (atom (Solvable t) false) (atom (Bit n i) true) tt b refl (part.taken t second))
-        (last_of_two (HasBit n s i false) (atom (Solvable s) false) (atom (Bit n i) false) tt a refl (part.taken s first))
+        settled.apart (Helper (Bit n i)) (implied t (Bit n i) true b (part.taken t second)) (implied s (Bit n i) false a (part.taken s first))
 
     alone : (s t : S) → Contains chosen s → Contains chosen t → u.name s ≡ u.name t → s ≡ t
     alone s t first second name = ⊎_elim

@@ -7,7 +7,7 @@ use Rattle.std.specs.Option.{option_map, option_map_or}
 use Rattle.std.specs.Bool.{beq}
 use Rattle.std.proofs.lemmas.Bool.{cases_Bool, cases_lt, false≢true}
 use Rattle.std.proofs.lemmas.Option.{same_Some, slice_get-get_or}
-use Rattle.std.proofs.lemmas.List.Elements.{All-contains, All-nil, Contains-get_or, Contains-append_cases, Contains-append_left, Contains-append_right}
+use Rattle.std.proofs.lemmas.List.Elements.{All-contains, Contains-get_or, Contains-append_cases, Contains-append_left, Contains-append_right}
 use Rattle.resolver_clause_store.specs.Candidates.{others, requirement_candidates}
 use Rattle.resolver_clause_store.specs.Formula.{clause_at}
 use Rattle.resolver_clause_store.specs.Laws.{HasLawfulPackages}
@@ -18,10 +18,11 @@ use Rattle.resolver_clause_store.specs.Universe.{Universe, Demands}
 use Rattle.resolver_clause_store.specs.Variables.{AreDistinct}
 use Rattle.resolver_clause_store.specs.declared.By.{By}
 use Rattle.resolver_clause_store.specs.declared.ClauseKind.{ClauseKind}
-use Rattle.resolver_clause_store.specs.declared.ClauseKind.TheVariants.{InstallRoot, Requires, GateRequires}
+use Rattle.resolver_clause_store.specs.declared.ClauseKind.TheVariants.{InstallRoot, Requires}
+use Rattle.resolver_clause_store.specs.declared.Helper.TheVariants.{Condition}
+use Rattle.resolver_clause_store.specs.declared.Origin.TheVariants.{Root, Solvable, Helper}
 use Rattle.resolver_clause_store.specs.Literals.{Literal}
 use Rattle.resolver_clause_store.specs.declared.Origin.{Origin}
-use Rattle.resolver_clause_store.specs.declared.Origin.TheVariants.{Root, Solvable, Gate, ConditionHelper}
 use Rattle.resolver_clause_store.specs.declared.Requirement.{Requirement}
 use Rattle.resolver_clause_store.specs.declared.RequirementClause.{RequirementClause}
 use Rattle.resolver_clause_store.specs.declared.Reason.TheVariants.{Assumed}
@@ -29,14 +30,14 @@ use Rattle.resolver_clause_store.specs.declared.Slot.{Slot}
 use Rattle.resolver_clause_store.specs.declared.Trail.{Trail}
 use Rattle.resolver_clause_store.specs.declared.VersionSetId.{VersionSetId}
 use Rattle.resolver_clause_store.proofs.SlotLemmas.{slot-within}
-use Rattle.resolver_encoding.specs.Atoms.{Atom, atom, origin_by, atoms_of}
+use Rattle.resolver_encoding.specs.Atoms.{Atom, Disjunct, atom, atoms_of, parent_of}
 use Rattle.resolver_encoding.specs.Encodings.{IsRequirementKind, IsEncoding, IsLeft, Notes}
 use Rattle.resolver_encoding.specs.Read.{AreValuesSettled}
 use Rattle.resolver_encoding.specs.ReadState.{AreSeeds}
 use Rattle.resolver_encoding.specs.SoFar.{IsReadSoFar}
 use Rattle.resolver_encoding.specs.Truth.{HasLawfulSolvables}
 use Rattle.resolver_encoding.specs.TrailAtoms.{CoversReached, IsAnswerBy, IsChosenBy, Takes, IsEntailed, IsFirstOpen, IsBecause, needed}
-use Rattle.resolver_encoding.specs.TrailAtoms.{needed_gate, seeded, left_out, forced, IsTrail, begun, went_on}
+use Rattle.resolver_encoding.specs.TrailAtoms.{seeded, left_out, forced, IsTrail, begun, went_on}
 use Rattle.resolver_encoding.specs.Trails.{AreAssumed, solvable_if, solvables_before, origin_at, value_of, entry_at, atoms_before, atoms_by}
 use Rattle.resolver_encoding.specs.Values.{IsAtom, AreInOrder}
 use Rattle.std.proofs.lemmas.List.{get_or_default}
@@ -94,7 +95,7 @@ record Cut {N S : Type 0} (vs : List VersionSetId) (candidates : List S) (first 
   before : List S
   after : List S
   is : candidates ≡ before ++ s ∷ after
-  first_is : first ≡ map (λ v. atom (ConditionHelper v) false) vs ++ map (λ x. atom (Solvable x) true) before
+  first_is : first ≡ map (λ v. atom (Helper (Condition v)) false) vs ++ map (λ x. atom (Solvable x) true) before
   middle_is : middle ≡ atom (Solvable s) true
 
 abbrev list_head : {X : Type 0} (x : X) → List X → X
@@ -125,20 +126,20 @@ cut_candidates {N} {S} (c ∷ cs) (a ∷ first) middle last e =
 
 cut_helpers : {N S : Type 0} (vs : List VersionSetId) (candidates : List S) (first : List (Atom N S)) (middle : Atom N S) (last : List (Atom N S)) →
     middle.positive ≡ true →
-    map (λ v. atom (ConditionHelper v) false) vs ++ map (λ x. atom (Solvable x) true) candidates ≡ first ++ middle ∷ last → Cut vs candidates first middle
+    map (λ v. atom (Helper (Condition v)) false) vs ++ map (λ x. atom (Solvable x) true) candidates ≡ first ++ middle ∷ last → Cut vs candidates first middle
 cut_helpers [] candidates first middle last positive e = cut_candidates candidates first middle last e
 cut_helpers {N} {S} (v ∷ vs) candidates [] middle last positive e =
-    let head : atom (ConditionHelper v) false ≡ middle = ap (list_head middle) e in
+    let head : atom (Helper (Condition v)) false ≡ middle = ap (list_head middle) e in
     absurd (false≢true (ap (λ (a : Atom N S). a.positive) head ∙ positive))
 cut_helpers {N} {S} (v ∷ vs) candidates (a ∷ first) middle last positive e =
     let w = cut_helpers vs candidates first middle last positive (ap list_rest e) in
-    let head : atom (ConditionHelper v) false ≡ a = ap (list_head a) e in
+    let head : atom (Helper (Condition v)) false ≡ a = ap (list_head a) e in
     record {
       s = w.s;
       before = w.before;
       after = w.after;
       is = w.is;
-      first_is = ap (λ q. q ∷ first) (sym head) ∙ ap (λ q. atom (ConditionHelper v) false ∷ q) w.first_is;
+      first_is = ap (λ q. q ∷ first) (sym head) ∙ ap (λ q. atom (Helper (Condition v)) false ∷ q) w.first_is;
       middle_is = w.middle_is;
     }
 
@@ -149,12 +150,12 @@ record CutBehind {N S : Type 0} (parent : Origin N S) (vs : List VersionSetId) (
   before : List S
   after : List S
   is : candidates ≡ before ++ s ∷ after
-  first_is : first ≡ atom parent false ∷ (map (λ v. atom (ConditionHelper v) false) vs ++ map (λ x. atom (Solvable x) true) before)
+  first_is : first ≡ atom parent false ∷ (map (λ v. atom (Helper (Condition v)) false) vs ++ map (λ x. atom (Solvable x) true) before)
   middle_is : middle ≡ atom (Solvable s) true
 
 cut_parent : {N S : Type 0} (parent : Origin N S) (vs : List VersionSetId) (candidates : List S) (first : List (Atom N S)) (middle : Atom N S)
     (last : List (Atom N S)) → middle.positive ≡ true →
-    atom parent false ∷ (map (λ v. atom (ConditionHelper v) false) vs ++ map (λ x. atom (Solvable x) true) candidates) ≡ first ++ middle ∷ last →
+    atom parent false ∷ (map (λ v. atom (Helper (Condition v)) false) vs ++ map (λ x. atom (Solvable x) true) candidates) ≡ first ++ middle ∷ last →
     CutBehind parent vs candidates first middle
 cut_parent {N} {S} parent vs candidates [] middle last positive e =
     let head : atom parent false ≡ middle = ap (list_head middle) e in
@@ -278,17 +279,17 @@ module _ {N S : Type 0} (u : Universe N S) (root : Demands) (notes : Notes N S) 
     is_solvable : origin_at notes.origins x ≡ Solvable s
     is_true : slot.value ≡ true
     parent_true : Contains (before slot.place) (atom parent true)
-    helpers_true : All (λ v. Contains (before slot.place) (atom (ConditionHelper v) true)) vs
+    helpers_true : All (λ v. Contains (before slot.place) (atom (Helper (Condition v)) true)) vs
     first_open : IsFirstOpen u (before slot.place) r s
 
   first_left : (x : ℕ) (slot : Slot) → slot_of trail x ≡ Some slot → (chosen : IsChosen notes.table requirements trail x slot) →
       (parent : Origin N S) (vs : List VersionSetId) (r : Requirement) →
       AllZip (IsAtom notes.origins) (clause_at notes.table chosen.requirement.number)
-      (atom parent false ∷ (map (λ v. atom (ConditionHelper v) false) vs ++ map (λ s. atom (Solvable s) true) (requirement_candidates u r))) →
+      (atom parent false ∷ (map (λ v. atom (Helper (Condition v)) false) vs ++ map (λ s. atom (Solvable s) true) (requirement_candidates u r))) →
       IsFirstLeft x slot parent vs r
   first_left x slot at chosen parent vs r zip =
       let atoms : List (Atom N S) = atom parent false ∷
-      (map (λ v. atom (ConditionHelper v) false) vs ++ map (λ s. atom (Solvable s) true) (requirement_candidates u r)) in
+      (map (λ v. atom (Helper (Condition v)) false) vs ++ map (λ s. atom (Solvable s) true) (requirement_candidates u r)) in
       let it : Literal = record { variable = x; positive = true } in
       let Zip : List Literal → Type 0 = λ ls. AllZip (IsAtom notes.origins) ls atoms in
       let w = halves (IsAtom notes.origins) chosen.before it chosen.after atoms (subst Zip chosen.clause zip) in
@@ -296,7 +297,7 @@ module _ {N S : Type 0} (u : Universe N S) (root : Demands) (notes : Notes N S) 
       let negation : (a : Atom N S) → Contains w.first a → Contains (before slot.place) (atom a.origin (not a.positive)) =
       zip_negation notes.origins trail size slot.place chosen.before w.first w.front chosen.false_before in
       let among : (a : Atom N S) → Contains
-      (atom parent false ∷ (map (λ v. atom (ConditionHelper v) false) vs ++ map (λ s. atom (Solvable s) true) behind.before)) a → Contains w.first a =
+      (atom parent false ∷ (map (λ v. atom (Helper (Condition v)) false) vs ++ map (λ s. atom (Solvable s) true) behind.before)) a → Contains w.first a =
       λ a inside. let At : List (Atom N S) → Type 0 = λ list. Contains list a in subst At (sym behind.first_is) inside in
       record {
         s = behind.s;
@@ -304,15 +305,15 @@ module _ {N S : Type 0} (u : Universe N S) (root : Demands) (notes : Notes N S) 
             ap (λ (a : Atom N S). a.origin) behind.middle_is;
         is_true = chosen.value;
         parent_true = negation (atom parent false) (among _ (here _ _));
-        helpers_true = λ k d below. negation (atom (ConditionHelper (get_or vs k d)) false)
-            (among _ (there _ _ _ (Contains-append_left (map (λ v. atom (ConditionHelper v) false) vs) (map (λ s. atom (Solvable s) true) behind.before) _
-            (Contains-map (λ v. atom (ConditionHelper v) false) vs _ (Contains-get_or vs k d below)))));
+        helpers_true = λ k d below. negation (atom (Helper (Condition (get_or vs k d))) false)
+            (among _ (there _ _ _ (Contains-append_left (map (λ v. atom (Helper (Condition v)) false) vs) (map (λ s. atom (Solvable s) true) behind.before) _
+            (Contains-map (λ v. atom (Helper (Condition v)) false) vs _ (Contains-get_or vs k d below)))));
         first_open = record {
           before = behind.before;
           after = behind.after;
           is = behind.is;
           closed = λ s inside_s. negation (atom (Solvable s) true)
-              (among _ (there _ _ _ (Contains-append_right (map (λ v. atom (ConditionHelper v) false) vs) (map (λ s. atom (Solvable s) true) behind.before) _
+              (among _ (there _ _ _ (Contains-append_right (map (λ v. atom (Helper (Condition v)) false) vs) (map (λ s. atom (Solvable s) true) behind.before) _
               (Contains-map (λ s. atom (Solvable s) true) behind.before s inside_s))));
         };
       }
@@ -334,15 +335,10 @@ module _ {N S : Type 0} (u : Universe N S) (root : Demands) (notes : Notes N S) 
       let Has : ClauseKind N S → Type 0 = λ k. Contains notes.kinds k in
       let in_order : In_order kind = (encoding.encoded.each chosen.requirement.number kind is).in_order in
       let inside : Has kind = Contains-at notes.kinds chosen.requirement.number kind is in
-      ⊎_elim
-      (λ (w : (by : By S) × (disjunct : List VersionSetId) × (r : Requirement) × (kind ≡ Requires by disjunct r)).
-      let left = first_left x slot at chosen (origin_by w.0) w.1 w.2 (subst In_order w.3 in_order) in
-      because_left x slot (origin_by w.0) w.1 w.2 left
-      (needed w.0 w.1 w.2 left.s (subst Has w.3 inside) left.parent_true left.helpers_true left.first_open))
-      (λ (w : (r : Requirement) × (kind ≡ GateRequires r)).
-      let left = first_left x slot at chosen (Gate w.0) [] w.0 (subst In_order w.1 in_order) in
-      because_left x slot (Gate w.0) [] w.0 left (needed_gate w.0 left.s (subst Has w.1 inside) left.parent_true left.first_open))
-      asks
+      let parent = parent_of asks.0 asks.2 in
+      let left = first_left x slot at chosen parent asks.1.items asks.2 (subst In_order asks.3 in_order) in
+      because_left x slot parent asks.1.items asks.2 left
+      (needed asks.0 asks.1 asks.2 left.s (subst Has asks.3 inside) left.parent_true left.helpers_true left.first_open)
 
   because_assumed : (x : ℕ) (slot : Slot) → slot_of trail x ≡ Some slot → slot.reason ≡ Assumed → Because x slot (atom (origin_at notes.origins x) slot.value)
   because_assumed x slot at reason =
@@ -464,10 +460,10 @@ module _ {N S : Type 0} (u : Universe N S) (root : Demands) (notes : Notes N S) 
   -- the atoms of a requirement clause with these helpers
   abbrev asking_atoms : Origin N S → List VersionSetId → Requirement → List (Atom N S)
   asking_atoms parent vs r = atom parent false ∷
-      (map (λ v. atom (ConditionHelper v) false) vs ++ map (λ s. atom (Solvable s) true) (requirement_candidates u r))
+      (map (λ v. atom (Helper (Condition v)) false) vs ++ map (λ s. atom (Solvable s) true) (requirement_candidates u r))
 
   atom_cases : (parent : Origin N S) (vs : List VersionSetId) (r : Requirement) → Contains all (atom parent true) →
-      All (λ v. Contains all (atom (ConditionHelper v) true)) vs →
+      All (λ v. Contains all (atom (Helper (Condition v)) true)) vs →
       (a : Atom N S) → Contains (asking_atoms parent vs r) a → ((a.positive ≡ false) × Contains all (atom a.origin true)) ⊎
       ((s : S) × Contains (requirement_candidates u r) s × (a ≡ atom (Solvable s) true))
   atom_cases parent vs r on helpers a among =
@@ -475,20 +471,23 @@ module _ {N S : Type 0} (u : Universe N S) (root : Demands) (notes : Notes N S) 
       ⊎_elim
       (λ e. inl (subst Negative e (refl, on)))
       (λ t. ⊎_elim
-      (λ h. let w = Contains-map_back (λ v. atom (ConditionHelper v) false) vs a h in
-      inl (subst Negative w.2 (refl, All-contains (λ v. Contains all (atom (ConditionHelper v) true)) vs w.0 helpers w.1)))
+      (λ h. let w = Contains-map_back (λ v. atom (Helper (Condition v)) false) vs a h in
+      inl (subst Negative w.2 (refl, All-contains (λ v. Contains all (atom (Helper (Condition v)) true)) vs w.0 helpers w.1)))
       (λ h. let w = Contains-map_back (λ s. atom (Solvable s) true) (requirement_candidates u r) a h in inr (w.0, w.1, sym w.2))
-      (Contains-append_cases (map (λ v. atom (ConditionHelper v) false) vs) (map (λ s. atom (Solvable s) true) (requirement_candidates u r)) a t))
-      (cons_cases (atom parent false) (map (λ v. atom (ConditionHelper v) false) vs ++ map (λ s. atom (Solvable s) true) (requirement_candidates u r)) a among)
+      (Contains-append_cases (map (λ v. atom (Helper (Condition v)) false) vs) (map (λ s. atom (Solvable s) true) (requirement_candidates u r)) a t))
+      (cons_cases (atom parent false) (map (λ v. atom (Helper (Condition v)) false) vs ++ map (λ s. atom (Solvable s) true) (requirement_candidates u r)) a among)
 
-  decided_kind : (kind : ClauseKind N S) (parent : Origin N S) (vs : List VersionSetId) (r : Requirement) → atoms_of u kind ≡ asking_atoms parent vs r →
-      IsRequirementKind kind → Contains notes.kinds kind → Contains all (atom parent true) →
-      All (λ v. Contains all (atom (ConditionHelper v) true)) vs → (s : S) × Contains (requirement_candidates u r) s × Contains all (atom (Solvable s) true)
-  decided_kind kind parent vs r same asks inside on helpers =
-      let Among_atoms : Atom N S → List (Atom N S) → Type 0 = λ q list. Contains list q in
+  pub decided : (who : Option (By S)) (disjunct : Disjunct) (r : Requirement) → Contains notes.kinds (Requires who disjunct r) →
+      Contains all (atom (parent_of who r) true) →
+      All (λ v. Contains all (atom (Helper (Condition v)) true)) disjunct.items → (s : S) × Contains (requirement_candidates u r) s ×
+      Contains all (atom (Solvable s) true)
+  decided who disjunct r inside on helpers =
+      let kind : ClauseKind N S = Requires who disjunct r in
+      let parent : Origin N S = parent_of who r in
+      let vs = disjunct.items in
       let n = number_of kind inside in
       let are = (encoding.encoded.each n.0 kind n.2).atoms in
-      let listed = encoding.listed n.0 kind n.2 asks in
+      let listed = encoding.listed n.0 kind n.2 (who, disjunct, r, refl) in
       let Among : List ℕ → Type 0 = λ ns. Contains ns n.0 in
       let w = Contains-map_back (λ (q : RequirementClause). q.number) requirements n.0 (subst Among (sym numbers) listed) in
       let Met : ℕ → Type 0 = λ m. IsMet trail (clause_at notes.table m) in
@@ -505,7 +504,7 @@ module _ {N S : Type 0} (u : Universe N S) (root : Demands) (notes : Notes N S) 
       (λ c.
       let Taken : Atom N S → Type 0 = λ q. Contains all (atom q.origin q.positive) in
       (c.0, c.1, subst Taken c.2 (true_literal l.0 a.0 a.2 l.2)))
-      (atom_cases parent vs r on helpers a.0 (subst (Among_atoms a.0) same a.1)))
+      (atom_cases parent vs r on helpers a.0 a.1))
       (λ still.
       let l = any-witness (λ (literal : Literal). (literal_value trail literal ≡ None) × (literal.positive ≡ false)) (clause_at notes.table n.0) still in
       let a = are.each_literal l.0 l.1 in
@@ -515,20 +514,8 @@ module _ {N S : Type 0} (u : Universe N S) (root : Demands) (notes : Notes N S) 
       let same : l.0.variable ≡ v.0 = encoding.distinct.same l.0.variable v.0 a.0.origin a.2.origin v.3 in
       absurd (literal_open _ v.1 l.0.positive l.2.0 (ap (slot_of trail) same ∙ v.2)))
       (λ c. absurd (false≢true (sym l.2.1 ∙ a.2.positive ∙ ap (λ (q : Atom N S). q.positive) c.2)))
-      (atom_cases parent vs r on helpers a.0 (subst (Among_atoms a.0) same a.1)))
+      (atom_cases parent vs r on helpers a.0 a.1))
       met
-
-  pub decided : (by : By S) (disjunct : List VersionSetId) (r : Requirement) → Contains notes.kinds (Requires by disjunct r) →
-      Contains all (atom (origin_by by) true) →
-      All (λ v. Contains all (atom (ConditionHelper v) true)) disjunct → (s : S) × Contains (requirement_candidates u r) s ×
-      Contains all (atom (Solvable s) true)
-  decided by disjunct r inside on helpers =
-      decided_kind (Requires by disjunct r) (origin_by by) disjunct r refl (inl (by, disjunct, r, refl)) inside on helpers
-
-  decided_gate : (r : Requirement) → Contains notes.kinds (GateRequires r) → Contains all (atom (Gate r) true) → (s : S) ×
-      Contains (requirement_candidates u r) s × Contains all (atom (Solvable s) true)
-  decided_gate r inside on = decided_kind (GateRequires r) (Gate r) [] r refl (inr (r, refl)) inside on
-      (All-nil (λ v. Contains all (atom (ConditionHelper v) true)))
 
   pub settled : AreValuesSettled u notes.kinds (Takes all)
   settled = record {
@@ -536,9 +523,8 @@ module _ {N S : Type 0} (u : Universe N S) (root : Demands) (notes : Notes N S) 
     root_taken = unit InstallRoot (atom Root true) encoding.installs (here (atom Root true) []) (λ b inside.
         ⊎_elim (λ e. inl (sym e)) (λ none. absurd (none_in b none)) (cons_cases (atom Root true) [] b inside));
     no_false = no_false;
-    unit = λ k a helper inside among others. unit k a inside among others;
+    unit = λ k h value inside among others. unit k (atom (Helper h) value) inside among others;
     decided = decided;
-    decided_gate = decided_gate;
   }
 
 -- the chosen solvables are those that the trail makes true

@@ -1,6 +1,6 @@
 -- Literals that are added to lists, and clauses made of them.
 use Rattle.std.proofs.Common.{◌≡◌, ℕ, ◌+◌, ◌<◌, List, [], ◌∷◌, ◌++◌, length, get_or, take, sym, ap, ◌∙◌, subst, ⊎_elim, Contains, append_assoc}
-use Rattle.std.proofs.Common.{append-nil, map}
+use Rattle.std.proofs.Common.{map}
 use Rattle.std.specs.List.{AllZip}
 use Rattle.std.proofs.lemmas.List.{take_more, map-append}
 use Rattle.resolver_clause_store.specs.Variables.{Keeps}
@@ -72,10 +72,6 @@ AreAtoms-twice {N} {S} origins ls a b same h =
           one.each_atom c of_a;
     }
 
--- nothing was added yet
-pub Adds-none : {N S : Type 0} (origins : List (Origin N S)) (ls : List Literal) → Adds origins ls ls []
-Adds-none origins ls = record { added = []; is = sym (append-nil ls); are = tt }
-
 pub Adds-trans : {N S : Type 0} (mid new : List (Origin N S)) (one two three : List Literal) (as' bs : List (Atom N S)) → Grows mid new → Adds mid one two as' →
     Adds new two three bs → Adds new one three (as' ++ bs)
 Adds-trans {N} {S} mid new one two three as' bs grows first second = record {
@@ -85,14 +81,16 @@ Adds-trans {N} {S} mid new one two three as' bs grows first second = record {
 }
 
 -- one more element has its literals
-pub Adds-next : {N S X : Type 0} (f : X → Atom N S) (mid new : List (Origin N S)) (start now next : List Literal) (xs : List X) (i : ℕ) (d : X) (a : Atom N S) →
-    Grows mid new → Adds mid start now (map f (take i xs)) → i < length xs → f (get_or xs i d) ≡ a → Adds new now next (a ∷ []) →
-    Adds new start next (map f (take (i + 1) xs))
-Adds-next {N} {S} {X} f mid new start now next xs i d a grows before below is more =
+pub Adds-next : {N S X : Type 0} (front : List (Atom N S)) (f : X → Atom N S) (mid new : List (Origin N S)) (start now next : List Literal) (xs : List X)
+    (i : ℕ) (d : X) (a : Atom N S) → Grows mid new → Adds mid start now (front ++ map f (take i xs)) → i < length xs → f (get_or xs i d) ≡ a →
+    Adds new now next (a ∷ []) → Adds new start next (front ++ map f (take (i + 1) xs))
+Adds-next {N} {S} {X} front f mid new start now next xs i d a grows before below is more =
     let taken : map f (take (i + 1) xs) ≡ map f (take i xs) ++ f (get_or xs i d) ∷ [] = ap (map f) (take_more xs i d below) ∙
     map-append f (take i xs) (get_or xs i d ∷ []) in
     let All_of : List (Atom N S) → Type 0 = λ as'. Adds new start next as' in
-    subst All_of (sym (taken ∙ ap (λ b. map f (take i xs) ++ b ∷ []) is)) (Adds-trans mid new start now next (map f (take i xs)) (a ∷ []) grows before more)
+    let all : front ++ map f (take (i + 1) xs) ≡ (front ++ map f (take i xs)) ++ a ∷ [] =
+    ap (λ as'. front ++ as') (taken ∙ ap (λ b. map f (take i xs) ++ b ∷ []) is) ∙ sym (append_assoc front (map f (take i xs)) (a ∷ [])) in
+    subst All_of (sym all) (Adds-trans mid new start now next (front ++ map f (take i xs)) (a ∷ []) grows before more)
 
 -- an empty list to which literals were added has these literals
 pub Adds-zip : {N S : Type 0} (origins : List (Origin N S)) (start ls : List Literal) (as' : List (Atom N S)) → start ≡ [] → Adds origins start ls as' →

@@ -7,7 +7,8 @@ use Rattle.std.proofs.lemmas.Bool.{cases_eq, cases_lt}
 use Rattle.std.proofs.lemmas.Nat.{leading_length, pow_below}
 use Rattle.std.proofs.lemmas.Nat.Bits.{bit_at-suc, bit_at_lowest}
 use Rattle.resolver_clause_store.specs.Universe.{Universe, Demands}
-use Rattle.resolver_clause_store.specs.declared.ClauseKind.TheVariants.{HasBit}
+use Rattle.resolver_clause_store.specs.declared.ClauseKind.TheVariants.{Implies}
+use Rattle.resolver_clause_store.specs.declared.Helper.TheVariants.{Bit}
 use Rattle.resolver_encoding.specs.Codes.{bit}
 use Rattle.resolver_encoding.specs.Encodings.{IsEncoding, Notes}
 use Rattle.resolver_encoding.specs.Groups.{IsAt}
@@ -113,12 +114,12 @@ apart_of_digits {N} {S} u root notes encoding s t one other same differ =
     by_number j k at to = ⊎_elim
         (λ (less : j < k).
         let w = digit_apart j k k less (omega arith) in
-        let Has : Bool → Type 0 = λ b. Contains notes.kinds (HasBit n t w.0 b) in
+        let Has : Bool → Type 0 = λ b. Contains notes.kinds (Implies t (Bit n w.0) b) in
         apart_coded w.0 (bit j w.0) (encoding.digits n j k s t at to w.0 w.1) (subst Has w.2 (encoding.digits n k k t t to to w.0 w.1)))
         (λ (not_less : k ≤ j). ⊎_elim
         (λ (more : k < j).
         let w = digit_apart k j j more (omega arith) in
-        let Has : Bool → Type 0 = λ b. Contains notes.kinds (HasBit n t w.0 b) in
+        let Has : Bool → Type 0 = λ b. Contains notes.kinds (Implies t (Bit n w.0) b) in
         apart_coded w.0 (bit j w.0) (encoding.digits n j j s s at at w.0 w.1)
         (subst Has (turned (bit j w.0) (bit k w.0) w.2) (encoding.digits n k j t s to at w.0 w.1)))
         (λ (not_more : j ≤ k). absurd (differ (same_number notes.groups n j k s t encoding.sound_groups at to (omega (arith, not_less, not_more)))))

@@ -1,5 +1,5 @@
 -- Steps of an encoding: one after another, or one more clause, solvable, package or helper.
-use Rattle.std.proofs.Common.{Bool, true, false}
+use Rattle.std.proofs.Common.{Bool}
 use Rattle.std.proofs.Common.{◌≡◌, ℕ, ◌+◌, ◌<◌, map, List, [], ◌∷◌, ◌++◌, length, length-append, refl, sym, ap, ◌∙◌, subst, ⊎_elim, inl, inr, arith}
 use Rattle.std.proofs.Common.{append_assoc, append-nil, Contains, ◌⊎◌}
 use Rattle.std.specs.Prelude.{Option, Some, ⊤, slice_get}
@@ -13,21 +13,21 @@ use Rattle.resolver_clause_store.specs.Candidates.{requirement_candidates, versi
 use Rattle.resolver_clause_store.specs.Variables.{AreDistinct, Keeps}
 use Rattle.resolver_clause_store.specs.declared.By.{By}
 use Rattle.resolver_clause_store.specs.declared.ClauseKind.{ClauseKind}
-use Rattle.resolver_clause_store.specs.declared.ClauseKind.TheVariants.{InstallRoot, Requires, AnyOf, GateRequires, Constrains, ConstrainsExcluded}
-use Rattle.resolver_clause_store.specs.declared.ClauseKind.TheVariants.{ConstrainsParent, HasBit, Lock, Excluded}
+use Rattle.resolver_clause_store.specs.declared.ClauseKind.TheVariants.{InstallRoot, Requires, Implies, Lock, Excluded}
+use Rattle.resolver_clause_store.specs.declared.Helper.TheVariants.{Bit}
+use Rattle.resolver_clause_store.specs.declared.Origin.TheVariants.{Root, Solvable}
 use Rattle.resolver_clause_store.specs.Literals.{Literal}
 use Rattle.resolver_clause_store.specs.declared.Origin.{Origin}
-use Rattle.resolver_clause_store.specs.declared.Origin.TheVariants.{Root, Solvable, ConditionHelper}
 use Rattle.resolver_clause_store.specs.declared.Requirement.{Requirement}
 use Rattle.resolver_clause_store.specs.declared.VersionSetId.{VersionSetId}
 use Rattle.resolver_clause_store.proofs.PlaceLemmas.{Keeps-same, Keeps-trans, place_cases, place_left, place_of_member}
-use Rattle.resolver_encoding.specs.Atoms.{Atom, atom, atoms_of, first_atom, front, helpers_of, second_atom, wanted}
+use Rattle.resolver_encoding.specs.Atoms.{Disjunct, atoms_of}
 use Rattle.resolver_encoding.specs.Called.{Call, to_ask, to_see}
-use Rattle.resolver_encoding.specs.Encodings.{AddsKind, IsRequirementKind, Coding, Doing, Extends, Grows, HasProperHelper, IsAskStep}
+use Rattle.resolver_encoding.specs.Encodings.{AddsKind, IsRequirementKind, Coding, Doing, Extends, Grows, IsAskStep}
 use Rattle.resolver_encoding.specs.Encodings.{IsEncodingOf, IsEncodingWhile, IsCallMade, IsGrowth, IsLeft, IsReadStep, IsStep, IsStepWhile, Notes, numbers_with, idle}
 use Rattle.resolver_encoding.specs.Codes.{bit}
 use Rattle.resolver_encoding.specs.Groups.{IsAt}
-use Rattle.resolver_encoding.specs.Read.{IsForbidden, forbidden_direct, forbidden_helped}
+use Rattle.resolver_encoding.specs.Read.{HasGate, IsForbidden, forbidden_direct, forbidden_helped}
 use Rattle.resolver_encoding.specs.ReadState.{Deferred}
 use Rattle.resolver_encoding.specs.Truth.{AreDue, IsTrueClause}
 use Rattle.resolver_encoding.specs.Values.{AreEncoded, AreInOrder, IsAtom, IsClauseOf}
@@ -68,97 +68,42 @@ IsGrowth-same notes = search (Keeps-same, Extends-same)
 pub IsGrowth-trans : {N S : Type 0} (one two three : Notes N S) → IsGrowth one two → IsGrowth two three → IsGrowth one three
 IsGrowth-trans one two three first second = search (Keeps-trans, Extends-trans, IsWithin-trans)
 
+pub AreDistinct-none : {X : Type 0} (xs : List X) → xs ≡ [] → AreDistinct xs
+AreDistinct-none {X} xs none =
+    let Apart : List X → Type 0 = λ list. AreDistinct list in
+    subst Apart (sym none) (record { same = λ i k x one other. absurd (omega (arith, slice_get_within [] i x one)) })
+
 -- the clause is no requirement clause
 abbrev pub IsPlain : {N S : Type 0} → ClauseKind N S → Type 0
-IsPlain (Requires by disjunct r) = ⊥
-IsPlain (GateRequires r) = ⊥
-IsPlain InstallRoot = ⊤
-IsPlain (AnyOf helper s) = ⊤
-IsPlain (Constrains by v s) = ⊤
-IsPlain (ConstrainsExcluded s v) = ⊤
-IsPlain (ConstrainsParent by v) = ⊤
-IsPlain (HasBit n s i b) = ⊤
-IsPlain (Lock s t) = ⊤
-IsPlain (Excluded s reason) = ⊤
+IsPlain (Requires parent disjunct r) = ⊥
+IsPlain kind = ⊤
 
 pub asks_not : {N S : Type 0} (kind : ClauseKind N S) → IsPlain kind → IsRequirementKind kind → ⊥
-asks_not {N} {S} kind plain asks =
-    let Plain : ClauseKind N S → Type 0 = λ k. IsPlain k in
-    ⊎_elim (λ w. subst Plain w.3 plain) (λ w. subst Plain w.1 plain) asks
-
--- the clause is a requirement clause and its number is listed, or neither
-abbrev AsksOrNot : {N S : Type 0} → ClauseKind N S → Type 0
-AsksOrNot kind = (IsRequirementKind kind × ((number : ℕ) (numbers : List ℕ) → numbers_with kind number numbers ≡ numbers ++ number ∷ [])) ⊎
-    ((IsRequirementKind kind → ⊥) × ((number : ℕ) (numbers : List ℕ) → numbers_with kind number numbers ≡ numbers))
-
-asks_or_not : {N S : Type 0} (kind : ClauseKind N S) → AsksOrNot kind
-asks_or_not (Requires by disjunct r) = inl (inl (by, disjunct, r, refl), λ number numbers. refl)
-asks_or_not (GateRequires r) = inl (inr (r, refl), λ number numbers. refl)
-asks_or_not InstallRoot = inr (asks_not InstallRoot tt, λ number numbers. refl)
-asks_or_not (AnyOf helper s) = inr (asks_not (AnyOf helper s) tt, λ number numbers. refl)
-asks_or_not (Constrains by v s) = inr (asks_not (Constrains by v s) tt, λ number numbers. refl)
-asks_or_not (ConstrainsExcluded s v) = inr (asks_not (ConstrainsExcluded s v) tt, λ number numbers. refl)
-asks_or_not (ConstrainsParent by v) = inr (asks_not (ConstrainsParent by v) tt, λ number numbers. refl)
-asks_or_not (HasBit n s i b) = inr (asks_not (HasBit n s i b) tt, λ number numbers. refl)
-asks_or_not (Lock s t) = inr (asks_not (Lock s t) tt, λ number numbers. refl)
-asks_or_not (Excluded s reason) = inr (asks_not (Excluded s reason) tt, λ number numbers. refl)
+asks_not {N} {S} kind plain asks = let Plain : ClauseKind N S → Type 0 = λ k. IsPlain k in subst Plain asks.3 plain
 
 -- the literals of a clause stay those of its kind when variables are added
 AreInOrder-keeps : {N S : Type 0} (u : Universe N S) (old new : List (Origin N S)) (ls : List Literal) (kind : ClauseKind N S) → Keeps old new →
     AreInOrder u old ls kind → AreInOrder u new ls kind
-AreInOrder-keeps u old new ls (Requires by disjunct r) keeps h = AllZip-keeps old new keeps ls (atoms_of u (Requires by disjunct r)) h
-AreInOrder-keeps u old new ls (GateRequires r) keeps h = AllZip-keeps old new keeps ls (atoms_of u (GateRequires r)) h
-AreInOrder-keeps u old new ls InstallRoot keeps h = tt
-AreInOrder-keeps u old new ls (AnyOf helper s) keeps h = tt
-AreInOrder-keeps u old new ls (Constrains by v s) keeps h = tt
-AreInOrder-keeps u old new ls (ConstrainsExcluded s v) keeps h = tt
-AreInOrder-keeps u old new ls (ConstrainsParent by v) keeps h = tt
-AreInOrder-keeps u old new ls (HasBit n s i b) keeps h = tt
-AreInOrder-keeps u old new ls (Lock s t) keeps h = tt
-AreInOrder-keeps u old new ls (Excluded s reason) keeps h = tt
+AreInOrder-keeps u old new ls (Requires parent disjunct r) keeps h = AllZip-keeps old new keeps ls (atoms_of u (Requires parent disjunct r)) h
+AreInOrder-keeps u old new ls kind keeps h = tt
 
 AreInOrder-zip : {N S : Type 0} (u : Universe N S) (origins : List (Origin N S)) (ls : List Literal) (kind : ClauseKind N S) →
     AllZip (IsAtom origins) ls (atoms_of u kind) → AreInOrder u origins ls kind
-AreInOrder-zip u origins ls (Requires by disjunct r) h = h
-AreInOrder-zip u origins ls (GateRequires r) h = h
-AreInOrder-zip u origins ls InstallRoot h = tt
-AreInOrder-zip u origins ls (AnyOf helper s) h = tt
-AreInOrder-zip u origins ls (Constrains by v s) h = tt
-AreInOrder-zip u origins ls (ConstrainsExcluded s v) h = tt
-AreInOrder-zip u origins ls (ConstrainsParent by v) h = tt
-AreInOrder-zip u origins ls (HasBit n s i b) h = tt
-AreInOrder-zip u origins ls (Lock s t) h = tt
-AreInOrder-zip u origins ls (Excluded s reason) h = tt
+AreInOrder-zip u origins ls (Requires parent disjunct r) h = h
+AreInOrder-zip u origins ls kind h = tt
 
 -- literals that stand for the atoms of a kind, in order
 pub IsClauseOf-zip : {N S : Type 0} (u : Universe N S) (origins : List (Origin N S)) (ls : List Literal) (kind : ClauseKind N S) →
     AllZip (IsAtom origins) ls (atoms_of u kind) → IsClauseOf u origins ls kind
 IsClauseOf-zip u origins ls kind h = record { atoms = AreAtoms-zip origins ls (atoms_of u kind) h; in_order = AreInOrder-zip u origins ls kind h }
 
--- the atoms of the helpers and of the candidates of a clause
-abbrev behind : {N S : Type 0} → List VersionSetId → List S → List (Atom N S)
-behind helpers candidates = map (λ v. atom (ConditionHelper v) false) helpers ++ map (λ s. atom (Solvable s) true) candidates
-
--- the atoms for which the literals of a clause are made
-abbrev pub made_of : {N S : Type 0} → Universe N S → Option (Origin N S × Bool) → ClauseKind N S → List (Atom N S)
-made_of u second kind = front (first_atom kind) second ++ behind (helpers_of kind) (wanted u kind)
-
-pub made_is : {N S : Type 0} (u : Universe N S) (kind : ClauseKind N S) → made_of u (second_atom kind) kind ≡ atoms_of u kind
-made_is u InstallRoot = refl
-made_is u (Requires by disjunct r) = refl
-made_is u (AnyOf helper s) = refl
-made_is u (Constrains by v s) = refl
-made_is u (GateRequires r) = refl
-made_is u (ConstrainsExcluded s v) = refl
-made_is u (ConstrainsParent by v) = refl
-made_is u (HasBit n s i b) = refl
-made_is u (Lock s t) = refl
-made_is u (Excluded s reason) = refl
-
 IsClauseOf-keeps : {N S : Type 0} (u : Universe N S) (old new : List (Origin N S)) (ls : List Literal) (kind : ClauseKind N S) → Keeps old new →
     IsClauseOf u old ls kind → IsClauseOf u new ls kind
 IsClauseOf-keeps u old new ls kind keeps h =
     record { atoms = AreAtoms-keeps old new ls (atoms_of u kind) keeps h.atoms; in_order = AreInOrder-keeps u old new ls kind keeps h.in_order }
+
+pub HasGate-within : {N S : Type 0} (kinds more : List (ClauseKind N S)) → IsWithin kinds more → (r : Requirement) → HasGate kinds r → HasGate more r
+HasGate-within kinds more within r gate = (gate.0, gate.1, within _ gate.2)
 
 pub IsForbidden-within : {N S : Type 0} (kinds more : List (ClauseKind N S)) → IsWithin kinds more → (by : By S) (v : VersionSetId) (s : S) →
     IsForbidden kinds by v s → IsForbidden more by v s
@@ -198,14 +143,7 @@ module _ {N S : Type 0} (u : Universe N S) where
   abbrev pub IsDue : List N → List S → ClauseKind N S → Type 0
   IsDue asked exempt (Lock s t) = Contains asked (u.name t) × (Contains exempt t → ⊥)
   IsDue asked exempt (Excluded s reason) = (Contains asked (u.name s) × (Contains exempt s → ⊥)) ⊎ (u.needs s ≡ unknown reason)
-  IsDue asked exempt InstallRoot = ⊤
-  IsDue asked exempt (Requires by disjunct r) = ⊤
-  IsDue asked exempt (AnyOf helper s) = ⊤
-  IsDue asked exempt (Constrains by v s) = ⊤
-  IsDue asked exempt (GateRequires r) = ⊤
-  IsDue asked exempt (ConstrainsExcluded s v) = ⊤
-  IsDue asked exempt (ConstrainsParent by v) = ⊤
-  IsDue asked exempt (HasBit n s i b) = ⊤
+  IsDue asked exempt kind = ⊤
 
   AreDue-push : (asked : List N) (exempt : List S) (kinds : List (ClauseKind N S)) (kind : ClauseKind N S) → AreDue u asked exempt kinds →
       IsDue asked exempt kind → AreDue u asked exempt (kinds ++ kind ∷ [])
@@ -224,22 +162,10 @@ module _ {N S : Type 0} (u : Universe N S) where
     pub candidates : (s : S) → Contains (requirement_candidates u r) s → Contains notes.seen s
     pub once : AreDistinct disjunct
 
-  -- the clause of a gate needs these packages and candidates first
-  pub record IsGateReady (notes : Notes N S) (r : Requirement) : Type 0 where
-    pub packages : (v : VersionSetId) → Contains (version_sets u r) v → Contains notes.asked (u.version_set_name v)
-    pub candidates : (s : S) → Contains (requirement_candidates u r) s → Contains notes.seen s
-
   abbrev pub IsPrepared : Doing N S → Notes N S → ClauseKind N S → Type 0
-  IsPrepared doing notes (Requires by disjunct r) = IsReady notes disjunct r
-  IsPrepared doing notes (Lock s t) = ⊤
-  IsPrepared doing notes (Excluded s reason) = ⊤
-  IsPrepared doing notes InstallRoot = ⊤
-  IsPrepared doing notes (AnyOf helper s) = ⊤
-  IsPrepared doing notes (Constrains by v s) = ⊤
-  IsPrepared doing notes (GateRequires r) = IsGateReady notes r
-  IsPrepared doing notes (ConstrainsExcluded s v) = ⊤
-  IsPrepared doing notes (ConstrainsParent by v) = ⊤
-  IsPrepared doing notes (HasBit n s i b) = Contains notes.seen s ⊎ Contains (map (λ (c : Coding N S). c.instance) doing.coding) s
+  IsPrepared doing notes (Requires parent disjunct r) = IsReady notes disjunct.items r
+  IsPrepared doing notes (Implies s (Bit n i) b) = Contains notes.seen s ⊎ Contains (map (λ (c : Coding N S). c.instance) doing.coding) s
+  IsPrepared doing notes kind = ⊤
 
   -- the codes are those of the registered solvables and of the work in progress
   pub record HasCodes (doing : Doing N S) (notes : Notes N S) (codes : N → ℕ → S → Bool) : Type 0 where
@@ -249,7 +175,6 @@ module _ {N S : Type 0} (u : Universe N S) where
   -- a clause that may be added: it is true and due, and the notes have all that it relies on
   pub record IsNext (doing : Doing N S) (root : Demands) (notes : Notes N S) (kind : ClauseKind N S) : Type 0 where
     pub is_true : (codes : N → ℕ → S → Bool) → HasCodes doing notes codes → IsTrueClause u codes root kind
-    pub proper : HasProperHelper kind
     pub due : IsDue (doing.asking ++ notes.asked) notes.exempt kind
     pub prepared : IsPrepared doing notes kind
 
@@ -285,17 +210,13 @@ module _ {N S : Type 0} (u : Universe N S) where
   -- they are listed after one more clause, with its number if it is a requirement clause
   AreListed-kind : (kinds : List (ClauseKind N S)) (requirements : List ℕ) (kind : ClauseKind N S) → AreListed kinds requirements →
       AreListed (kinds ++ kind ∷ []) (numbers_with kind (length kinds) requirements)
-  AreListed-kind kinds requirements kind before =
-      let Listed : List ℕ → Type 0 = λ numbers. AreListed (kinds ++ kind ∷ []) numbers in
-      ⊎_elim (λ asks. subst Listed (sym (asks.1 (length kinds) requirements)) (AreListed-asking kinds requirements kind asks.0 before))
-      (λ plain. subst Listed (sym (plain.1 (length kinds) requirements)) (AreListed-plain kinds requirements kind plain.0 before))
-      (asks_or_not kind)
+  AreListed-kind kinds requirements (Requires parent disjunct r) before =
+      AreListed-asking kinds requirements (Requires parent disjunct r) (parent, disjunct, r, refl) before
+  AreListed-kind kinds requirements kind before = AreListed-plain kinds requirements kind (asks_not kind tt) before
 
   Extends-asking : (kind : ClauseKind N S) (number : ℕ) (numbers : List ℕ) → Extends numbers (numbers_with kind number numbers)
-  Extends-asking kind number numbers =
-      let Longer : List ℕ → Type 0 = λ list. Extends numbers list in
-      ⊎_elim (λ asks. subst Longer (sym (asks.1 number numbers)) (Extends-push numbers number))
-      (λ plain. subst Longer (sym (plain.1 number numbers)) (Extends-same numbers)) (asks_or_not kind)
+  Extends-asking (Requires parent disjunct r) number numbers = Extends-push numbers number
+  Extends-asking kind number numbers = Extends-same numbers
 
   abbrev pub with_clause : Notes N S → List (Origin N S) → List ℕ → List Literal → ClauseKind N S → Notes N S
   with_clause notes origins requirements literals kind =
@@ -308,6 +229,8 @@ module _ {N S : Type 0} (u : Universe N S) where
   IsEncoding-clause doing root notes origins requirements literals kind grows clause listed next before =
       let within = IsWithin-push notes.kinds kind in
       let Prepared : ClauseKind N S → Type 0 = λ k. IsPrepared doing notes k in
+      let ready : (parent : Option (By S)) (disjunct : Disjunct) (r : Requirement) → kind ≡ Requires parent disjunct r → IsReady notes disjunct.items r =
+      λ parent disjunct r e. subst Prepared e next.prepared in
       record {
         root_first = grows.keeps.kept 0 Root before.root_first;
         distinct = grows.distinct before.distinct;
@@ -316,28 +239,19 @@ module _ {N S : Type 0} (u : Universe N S) where
         own_codes = before.own_codes;
         each_true = All-push (IsTrueClause u before.codes root) notes.kinds kind before.each_true
             (next.is_true before.codes (record { placed = before.placed; coding = before.coding }));
-        each_proper = All-push HasProperHelper notes.kinds kind before.each_proper next.proper;
         due = AreDue-push (doing.asking ++ notes.asked) notes.exempt notes.kinds kind before.due next.due;
         installs = within InstallRoot before.installs;
         listed = listed.listed;
         ask = listed.ask;
-        helpers = λ by disjunct r h. ⊎_elim (λ earlier. before.helpers by disjunct r earlier) (λ e.
-            let ready : IsReady notes disjunct r = subst Prepared e next.prepared in ready.helpers)
-            (Contains-push_cases notes.kinds kind (Requires by disjunct r) h);
-        packages = λ by disjunct r h. ⊎_elim (λ earlier. before.packages by disjunct r earlier) (λ e.
-            let ready : IsReady notes disjunct r = subst Prepared e next.prepared in ready.packages)
-            (Contains-push_cases notes.kinds kind (Requires by disjunct r) h);
-        candidates = λ by disjunct r h. ⊎_elim (λ earlier. before.candidates by disjunct r earlier) (λ e.
-            let ready : IsReady notes disjunct r = subst Prepared e next.prepared in ready.candidates)
-            (Contains-push_cases notes.kinds kind (Requires by disjunct r) h);
-        once = λ by disjunct r h. ⊎_elim (λ earlier. before.once by disjunct r earlier) (λ e.
-            let ready : IsReady notes disjunct r = subst Prepared e next.prepared in ready.once)
-            (Contains-push_cases notes.kinds kind (Requires by disjunct r) h);
-        gate_packages = λ r h. ⊎_elim (λ earlier. before.gate_packages r earlier) (λ e.
-            let ready : IsGateReady notes r = subst Prepared e next.prepared in ready.packages) (Contains-push_cases notes.kinds kind (GateRequires r) h);
-        gate_candidates = λ r h. ⊎_elim (λ earlier. before.gate_candidates r earlier) (λ e.
-            let ready : IsGateReady notes r = subst Prepared e next.prepared in ready.candidates) (Contains-push_cases notes.kinds kind (GateRequires r) h);
-        gated = λ r h. within _ (before.gated r h);
+        helpers = λ parent disjunct r h. ⊎_elim (λ earlier. before.helpers parent disjunct r earlier) (λ e. (ready parent disjunct r e).helpers)
+            (Contains-push_cases notes.kinds kind (Requires parent disjunct r) h);
+        packages = λ parent disjunct r h. ⊎_elim (λ earlier. before.packages parent disjunct r earlier) (λ e. (ready parent disjunct r e).packages)
+            (Contains-push_cases notes.kinds kind (Requires parent disjunct r) h);
+        candidates = λ parent disjunct r h. ⊎_elim (λ earlier. before.candidates parent disjunct r earlier) (λ e. (ready parent disjunct r e).candidates)
+            (Contains-push_cases notes.kinds kind (Requires parent disjunct r) h);
+        once = λ parent disjunct r h. ⊎_elim (λ earlier. before.once parent disjunct r earlier) (λ e. (ready parent disjunct r e).once)
+            (Contains-push_cases notes.kinds kind (Requires parent disjunct r) h);
+        gated = λ r h. HasGate-within notes.kinds (notes.kinds ++ kind ∷ []) within r (before.gated r h);
         excluded = λ v h s m. within _ (before.excluded v h s m);
         follow = λ v h s m. within _ (before.follow v h s m);
         locks = λ s t h free lock inside differ. within _ (before.locks s t h free lock inside differ);
@@ -346,7 +260,7 @@ module _ {N S : Type 0} (u : Universe N S) where
         placed = before.placed;
         coding = before.coding;
         coded = λ n s i b h. ⊎_elim (λ earlier. before.coded n s i b earlier) (λ e. subst Prepared e next.prepared)
-            (Contains-push_cases notes.kinds kind (HasBit n s i b) h);
+            (Contains-push_cases notes.kinds kind (Implies s (Bit n i) b) h);
         digits = λ n j k s t one other i below. within _ (before.digits n j k s t one other i below);
         sound_groups = before.sound_groups;
         grouped = before.grouped;

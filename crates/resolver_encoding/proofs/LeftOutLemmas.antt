@@ -12,15 +12,12 @@ use Rattle.resolver_clause_store.specs.Lists.{IsWithin}
 use Rattle.resolver_clause_store.specs.SoftRun.{Exempts, FitsNowhere, asked_before, not_asked}
 use Rattle.resolver_clause_store.specs.Universe.{Universe, Demands}
 use Rattle.resolver_clause_store.specs.Variables.{Keeps}
-use Rattle.resolver_clause_store.specs.declared.By.{By}
 use Rattle.resolver_clause_store.specs.declared.ClauseKind.{ClauseKind}
-use Rattle.resolver_clause_store.specs.declared.ClauseKind.TheVariants.{GateRequires, Requires}
+use Rattle.resolver_clause_store.specs.declared.Helper.TheVariants.{Condition}
+use Rattle.resolver_clause_store.specs.declared.Origin.TheVariants.{Solvable, Helper}
 use Rattle.resolver_clause_store.specs.Literals.{Literal}
 use Rattle.resolver_clause_store.specs.declared.Origin.{Origin}
-use Rattle.resolver_clause_store.specs.declared.Origin.TheVariants.{ConditionHelper, Gate, Solvable}
-use Rattle.resolver_clause_store.specs.declared.Requirement.{Requirement}
-use Rattle.resolver_clause_store.specs.declared.VersionSetId.{VersionSetId}
-use Rattle.resolver_encoding.specs.Atoms.{Atom, atom, atoms_of, is_on, origin_by}
+use Rattle.resolver_encoding.specs.Atoms.{Atom, atom, atoms_of, is_on, parent_of}
 use Rattle.resolver_encoding.specs.Encodings.{IsRequirementKind, Extends, IsEncoding, Notes}
 use Rattle.resolver_encoding.specs.LeftOut.{IsLeftOut}
 use Rattle.resolver_encoding.specs.Truth.{AreDue, HasLawfulSolvables, Spares, follows}
@@ -60,30 +57,19 @@ module _ {N S : Type 0} (u : Universe N S) where
   candidate_of kind asks a inside on =
       let Found : Type 0 = (s : S) × (a.origin ≡ Solvable s) in
       let Among : ClauseKind N S → Type 0 = λ k. Contains (atoms_of u k) a in
-      ⊎_elim
-      (λ (w : (by : By S) × (disjunct : List VersionSetId) × (r : Requirement) × (kind ≡ Requires by disjunct r)).
-      let helpers : List (Atom N S) = map (λ v. atom (ConditionHelper v) false) w.1 in
-      let candidates : List (Atom N S) = map (λ s. atom (Solvable s) true) (requirement_candidates u w.2) in
-      let parent : Atom N S = atom (origin_by w.0) false in
+      let helpers : List (Atom N S) = map (λ v. atom (Helper (Condition v)) false) asks.1.items in
+      let candidates : List (Atom N S) = map (λ s. atom (Solvable s) true) (requirement_candidates u asks.2) in
+      let parent : Atom N S = atom (parent_of asks.0 asks.2) false in
       let found : Found = ⊎_elim
       (λ e. absurd (negative a parent refl e on))
       (λ rest. ⊎_elim
-      (λ helper. let v = Contains-map_back (λ v. atom (ConditionHelper v) false) w.1 a helper in
-      absurd (negative a (atom (ConditionHelper v.0) false) refl v.2 on))
-      (λ candidate. candidate_in (requirement_candidates u w.2) a candidate)
+      (λ helper. let v = Contains-map_back (λ v. atom (Helper (Condition v)) false) asks.1.items a helper in
+      absurd (negative a (atom (Helper (Condition v.0)) false) refl v.2 on))
+      (λ candidate. candidate_in (requirement_candidates u asks.2) a candidate)
       (Contains-append_cases helpers candidates a rest))
-      (cons_cases parent (helpers ++ candidates) a (subst Among w.3 inside))
+      (cons_cases parent (helpers ++ candidates) a (subst Among asks.3 inside))
       in
-      found)
-      (λ (w : (r : Requirement) × (kind ≡ GateRequires r)).
-      let gate : Atom N S = atom (Gate w.0) false in
-      let found : Found = ⊎_elim
-      (λ e. absurd (negative a gate refl e on))
-      (λ candidate. candidate_in (requirement_candidates u w.0) a candidate)
-      (cons_cases gate (map (λ s. atom (Solvable s) true) (requirement_candidates u w.0)) a (subst Among w.1 inside))
-      in
-      found)
-      asks
+      found
 
   module _ (root : Demands) (notes : Notes N S) (encoding : IsEncoding u root notes) where
     -- a positive literal of a requirement clause stands for a candidate

@@ -1,30 +1,35 @@
 -- Steps that note a clause, a variable, a solvable, a package or a helper.
 use Rattle.std.proofs.Common.{◌≡◌, ◌≢◌, ◌⊎◌, ℕ, ◌+◌, ◌<◌, length, get_or, take, List, [], ◌∷◌, ◌++◌, sym, ◌∙◌, subst, ⊎_elim, inl, inr, Contains, All}
-use Rattle.std.proofs.Common.{Bool, true, false}
-use Rattle.std.specs.Prelude.{Option, Some, None, ⊤}
+use Rattle.std.proofs.Common.{Bool, true, false, refl}
+use Rattle.std.specs.Prelude.{IfSome, Option, Some, None, ⊤}
 use Rattle.std.proofs.lemmas.Bool.{true≢false}
 use Rattle.std.proofs.lemmas.List.Elements.{All-contains, All-contains_itself, All-get_or, All-more, All-weaker, Contains-push}
-use Rattle.std.proofs.lemmas.List.Elements.{Contains-push_cases}
+use Rattle.std.proofs.lemmas.List.Elements.{Contains-get_or, Contains-push_cases}
 use Rattle.resolver_clause_store.specs.Laws.{IsIdentity}
 use Rattle.resolver_clause_store.specs.Lists.{IsWithin}
 use Rattle.resolver_clause_store.specs.Universe.{Universe, Demands, Package}
 use Rattle.resolver_clause_store.specs.Candidates.{matching, others}
 use Rattle.resolver_clause_store.specs.declared.ClauseKind.{ClauseKind}
-use Rattle.resolver_clause_store.specs.declared.ClauseKind.TheVariants.{AnyOf, GateRequires, ConstrainsExcluded}
-use Rattle.resolver_clause_store.specs.declared.ClauseKind.TheVariants.{Lock, Excluded}
+use Rattle.resolver_clause_store.specs.declared.ClauseKind.TheVariants.{Implies, Constrains, Lock, Excluded}
+use Rattle.resolver_clause_store.specs.declared.Helper.TheVariants.{Bit, Constraint, Condition}
+use Rattle.resolver_clause_store.specs.declared.Origin.TheVariants.{Root}
+use Rattle.resolver_clause_store.specs.TrueRules.{demands_by}
+use Rattle.resolver_clause_store.specs.declared.By.{By}
+use Rattle.resolver_clause_store.specs.declared.Helper.{Helper as HelperOf}
 use Rattle.resolver_clause_store.specs.declared.Origin.{Origin}
-use Rattle.resolver_clause_store.specs.declared.Origin.TheVariants.{Root, ConditionHelper}
 use Rattle.resolver_clause_store.specs.declared.Requirement.{Requirement}
 use Rattle.resolver_clause_store.specs.declared.StringId.{StringId}
 use Rattle.resolver_clause_store.specs.declared.VersionSetId.{VersionSetId}
 use Rattle.resolver_clause_store.proofs.SetLemmas.{All-next}
 use Rattle.resolver_encoding.specs.Called.{Call, IsAsking, IsNamedBy, IsSeeing, IsSeeingEach, to_ask, to_see}
-use Rattle.resolver_encoding.specs.Encodings.{AddsKind, Doing, Grows, HasProperHelper, IsAskStep, IsEncoding}
+use Rattle.resolver_encoding.specs.Encodings.{AddsKind, Doing, Grows, IsAskStep, IsEncoding}
 use Rattle.resolver_encoding.specs.Encodings.{IsCallMade, IsEncodingWhile, IsLockRead, IsStep, IsStepWhile, Notes, asking_for, idle}
-use Rattle.resolver_encoding.specs.Truth.{AreDue, IsTrueClause}
+use Rattle.resolver_encoding.specs.Read.{HasGate}
+use Rattle.resolver_encoding.specs.Atoms.{has}
+use Rattle.resolver_encoding.specs.Truth.{AreDue, IsTrueClause, follows}
 use Rattle.resolver_encoding.proofs.EncodingLemmas.{AreEncoded-keeps, Contains-kept, HasCodes, IsDue, IsPrepared, IsStep-clause}
 use Rattle.resolver_encoding.proofs.EncodingLemmas.{IsStep-same, IsWithin-push, StaysRight}
-use Rattle.resolver_clause_store.proofs.ListLemmas.{Contains-cons_cases as cons_cases, Contains-here as here, Contains-there as there}
+use Rattle.resolver_clause_store.proofs.ListLemmas.{Contains-cons_cases as cons_cases, Contains-here as here, Contains-there as there, list_any-contains}
 
 -- one more element of a list, with a weaker property
 pub All-grown : {X : Type 0} (P P' : X → Type 0) (xs : List X) (i : ℕ) (x : X) → ((y : X) → P y → P' y) → i < length xs → x ≡ get_or xs i x →
@@ -67,11 +72,30 @@ module _ {N S : Type 0} (u : Universe N S) where
   -- one more clause, if its conditions do not depend on the problem
   pub IsStep-kind : (doing : Doing N S) (Premise : Demands → Type 0) (old new : Notes N S) (kind : ClauseKind N S) → AddsKind u kind old new →
       ((root : Demands) → Premise root → IsEncodingWhile u doing root old → (codes : N → ℕ → S → Bool) → HasCodes u doing old codes →
-      IsTrueClause u codes root kind) → HasProperHelper kind → IsDue u (doing.asking ++ old.asked) old.exempt kind → IsPrepared u doing old kind →
+      IsTrueClause u codes root kind) → IsDue u (doing.asking ++ old.asked) old.exempt kind → IsPrepared u doing old kind →
       IsStepWhile u doing Premise old new
-  IsStep-kind doing Premise old new kind adds is_true proper due prepared =
+  IsStep-kind doing Premise old new kind adds is_true due prepared =
       IsStep-clause u doing Premise old new kind adds
-      (λ root premise before. record { is_true = is_true root premise before; proper = proper; due = due; prepared = prepared })
+      (λ root premise before. record { is_true = is_true root premise before; due = due; prepared = prepared })
+
+  -- one more clause by which a solvable implies a helper, other than a bit
+  pub IsStep-implied : (old new : Notes N S) (s : S) (h : HelperOf N) → ((n : N) (i : ℕ) → h ≡ Bit n i → ⊥) → AddsKind u (Implies s h true) old new →
+      ((codes : N → ℕ → S → Bool) → follows u codes h s ≡ true) → IsStep u (λ root. ⊤) old new
+  IsStep-implied old new s (Bit n i) no_bit adds follow = absurd (no_bit n i refl)
+  IsStep-implied old new s h no_bit adds follow =
+      IsStep-kind idle (λ root. ⊤) old new (Implies s h true) adds (λ root _ before codes _. (refl, follow codes)) tt tt
+
+  -- each of these solvables is in the list
+  pub all_have : IsIdentity u.same_solvable → (xs ys : List S) → xs ≡ ys → All (λ s. has u ys s ≡ true) xs
+  all_have same xs ys is = λ k d below.
+      let s = get_or xs k d in
+      let Has : List S → Type 0 = λ list. Contains list s in
+      list_any-contains (u.same_solvable s) ys s (subst Has is (Contains-get_or xs k d below)) (same.itself s)
+
+  pub constraint_true : (codes : N → ℕ → S → Bool) (root : Demands) (by : By S) (v : VersionSetId) (candidate : Option S) →
+      Contains (demands_by u root by).constraints v → IfSome candidate (Contains (others u v)) → IsTrueClause u codes root (Constrains by v candidate)
+  constraint_true codes root by v (Some s) asks other = (asks, other)
+  constraint_true codes root by v None asks other = asks
 
   -- variables were added
   pub IsStep-origins : (doing : Doing N S) (Premise : Demands → Type 0) (old new : Notes N S) (origins : List (Origin N S)) (limit : ℕ) →
@@ -148,7 +172,7 @@ module _ {N S : Type 0} (u : Universe N S) where
           All-contains (λ x. (Contains mid.exempt x.0 → ⊥) → Contains mid.kinds (Excluded x.0 x.1)) (u.package_named (u.name s)).excluded (s, reason)
           (read_of s is).exclusions inside free)
           (Contains-push_cases mid.asked n (u.name s) h) in
-          search (IsWithin-push mid.asked n, before.packages, before.gate_packages)
+          search (IsWithin-push mid.asked n, before.packages)
 
   -- the lists of a package, as they were found
   pub IsPackageRead-found : (kinds more : List (ClauseKind N S)) (exempt exempt' : List S) → IsWithin kinds more → exempt' ≡ exempt →
@@ -171,31 +195,31 @@ module _ {N S : Type 0} (u : Universe N S) where
 
   -- one more condition helper, which each matching candidate implies
   pub IsStep-helped : (old new : Notes N S) (v : VersionSetId) → new ≡ record old { helped = old.helped ++ v ∷ [] } →
-      ((s : S) → Contains (matching u v) s → Contains old.kinds (AnyOf (ConditionHelper v) s)) → IsStep u (λ root. ⊤) old new
+      ((s : S) → Contains (matching u v) s → Contains old.kinds (Implies s (Condition v) true)) → IsStep u (λ root. ⊤) old new
   IsStep-helped old new v e follows =
       let Step : Notes N S → Type 0 = λ m. IsStep u (λ root. ⊤) old m in
-      let Follows : VersionSetId → Type 0 = λ x. (s : S) → Contains (matching u x) s → Contains old.kinds (AnyOf (ConditionHelper x) s) in
+      let Follows : VersionSetId → Type 0 = λ x. (s : S) → Contains (matching u x) s → Contains old.kinds (Implies s (Condition x) true) in
       let more = IsWithin-push old.helped v in
       let keeps : StaysRight u idle (λ root. ⊤) old (record old { helped = old.helped ++ v ∷ [] }) =
       λ root premise before. search (before.helpers, holds_also Follows old.helped v before.follow follows) in
       subst Step (sym e) (assumption (IsStep-same u idle (λ root. ⊤) old))
 
   -- one more gate, whose clause is in the table
-  pub IsStep-gated : (old new : Notes N S) (r : Requirement) → new ≡ record old { gates = old.gates ++ r ∷ [] } → Contains old.kinds (GateRequires r) →
+  pub IsStep-gated : (old new : Notes N S) (r : Requirement) → new ≡ record old { gates = old.gates ++ r ∷ [] } → HasGate old.kinds r →
       IsStep u (λ root. ⊤) old new
   IsStep-gated old new r e has =
       let Step : Notes N S → Type 0 = λ m. IsStep u (λ root. ⊤) old m in
-      let Gated : Requirement → Type 0 = λ x. Contains old.kinds (GateRequires x) in
+      let Gated : Requirement → Type 0 = λ x. HasGate old.kinds x in
       let keeps : StaysRight u idle (λ root. ⊤) old (record old { gates = old.gates ++ r ∷ [] }) =
       λ root premise before. search (holds_also Gated old.gates r before.gated has) in
       subst Step (sym e) (assumption (IsStep-same u idle (λ root. ⊤) old, IsWithin-push old.gates r))
 
   -- one more constraint helper, which each candidate that it forbids implies
   pub IsStep-constrained : (old new : Notes N S) (v : VersionSetId) → new ≡ record old { constrained = old.constrained ++ v ∷ [] } →
-      ((s : S) → Contains (others u v) s → Contains old.kinds (ConstrainsExcluded s v)) → IsStep u (λ root. ⊤) old new
+      ((s : S) → Contains (others u v) s → Contains old.kinds (Implies s (Constraint v) true)) → IsStep u (λ root. ⊤) old new
   IsStep-constrained old new v e follows =
       let Step : Notes N S → Type 0 = λ m. IsStep u (λ root. ⊤) old m in
-      let Excludes : VersionSetId → Type 0 = λ x. (s : S) → Contains (others u x) s → Contains old.kinds (ConstrainsExcluded s x) in
+      let Excludes : VersionSetId → Type 0 = λ x. (s : S) → Contains (others u x) s → Contains old.kinds (Implies s (Constraint x) true) in
       let keeps : StaysRight u idle (λ root. ⊤) old (record old { constrained = old.constrained ++ v ∷ [] }) =
       λ root premise before. search (holds_also Excludes old.constrained v before.excluded follows) in
       subst Step (sym e) (assumption (IsStep-same u idle (λ root. ⊤) old, IsWithin-push old.constrained v))

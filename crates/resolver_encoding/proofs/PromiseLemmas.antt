@@ -1,6 +1,6 @@
 -- If first choices are promised, a trail without assumptions takes only first choices.
 use Rattle.std.proofs.Common.{ℕ, ◌≡◌, ◌⊎◌, List, [], ◌∷◌, ◌++◌, length, Bool, true, inl, inr, refl, sym, ap, ◌∙◌, subst, ⊎_elim, Contains, All}
-use Rattle.std.specs.Prelude.{map, Option, Some, slice_get}
+use Rattle.std.specs.Prelude.{map, None, Option, Some, slice_get}
 use Rattle.std.specs.Bool.{beq}
 use Rattle.std.proofs.lemmas.Bool.{both_ways}
 use Rattle.std.proofs.lemmas.Option.{same_Some}
@@ -17,10 +17,11 @@ use Rattle.resolver_clause_store.specs.Valid as valid
 use Rattle.resolver_clause_store.specs.Valid.{IsValid, demands_of}
 use Rattle.resolver_clause_store.specs.declared.ClauseKind.{ClauseKind}
 use Rattle.resolver_clause_store.specs.declared.ClauseKind.TheVariants.{Requires}
+use Rattle.resolver_clause_store.specs.declared.Helper.TheVariants.{Gate}
+use Rattle.resolver_clause_store.specs.declared.Origin.TheVariants.{Solvable}
 use Rattle.resolver_clause_store.specs.declared.ConditionId.{ConditionId}
 use Rattle.resolver_clause_store.specs.declared.ConditionalRequirement.{ConditionalRequirement}
 use Rattle.resolver_clause_store.specs.declared.Origin.{Origin}
-use Rattle.resolver_clause_store.specs.declared.Origin.TheVariants.{Solvable, Gate}
 use Rattle.resolver_clause_store.specs.declared.Requirement.{Requirement}
 use Rattle.resolver_clause_store.specs.declared.Requirement.TheVariants.{Single, Union}
 use Rattle.resolver_clause_store.specs.declared.RequirementClause.{RequirementClause}
@@ -32,7 +33,7 @@ use Rattle.resolver_encoding.specs.Encodings.{Notes}
 use Rattle.resolver_encoding.specs.ReadState.{AreSeeds}
 use Rattle.resolver_encoding.specs.SoFar.{IsReadSoFar}
 use Rattle.resolver_clause_store.specs.Statements.{AllMeet}
-use Rattle.resolver_encoding.specs.TrailAtoms.{IsFirstOpen, IsBecause, needed, needed_gate, seeded, left_out, forced, IsTrail, begun, went_on}
+use Rattle.resolver_encoding.specs.TrailAtoms.{IsFirstOpen, IsBecause, needed, seeded, left_out, forced, IsTrail, begun, went_on}
 use Rattle.resolver_encoding.specs.TrailAtoms.{IsChosenBy}
 use Rattle.resolver_encoding.specs.Trails.{AreAssumed, atoms_before, solvables_before}
 use Rattle.resolver_encoding.specs.Truth.{AreCodes, HasLawfulSolvables, is_plain, follows, IsTrueClause, Spares}
@@ -115,14 +116,14 @@ module _ {N S : Type 0} (u : Universe N S) (root : Demands) (lawful : HasLawfulS
         (first_is it.before it.after s met.s (requirement_candidates u q) it.is (subst First (ap (requirement_candidates u) (sym met.single)) met.choice))
 
     because : (earlier : List (Atom N S)) → Agrees earlier → (a : Atom N S) → IsBecause u kinds [] [] earlier a → value a.origin ≡ a.positive
-    because earlier before a (needed by disjunct r s clause parent helpers open_one) =
+    because earlier before a (needed (Some by) disjunct r s clause parent helpers open_one) =
         let here_is = present u (follows u codes) lawful.same_solvable firsts by (before _ parent) in
-        let meets : AllMeet firsts (map (matching u) disjunct) = All-map (λ xs. Meets xs firsts) (matching u) disjunct
+        let meets : AllMeet firsts (map (matching u) disjunct.items) = All-map (λ xs. Meets xs firsts) (matching u) disjunct.items
         (λ k d below. helper_meets u (follows u codes) lawful.same_solvable firsts kinds (defines u root kinds codes are_codes are_true lawful.same_solvable) _
         (before _ (helpers k d below))) in
-        let t = All-contains (IsTrueClause u codes root) kinds (Requires by disjunct r) are_true clause in
+        let t = All-contains (IsTrueClause u codes root) kinds (Requires (Some by) disjunct r) are_true clause in
         of_firsts s (decided earlier before t.0 r s t.2 (requires_by u root firsts by t.0 here_is t.1) (active_by u firsts _ t.0.condition t.3 meets) open_one)
-    because earlier before a (needed_gate r s clause gate open_one) =
+    because earlier before a (needed None disjunct r s clause gate helpers open_one) =
         let w = list_any-witness (follows u codes (Gate r)) firsts (before _ gate) in
         let q = list_any-witness (is_plain r) (demands_of (u.needs w.0)).requirements w.2 in
         let plain = is_plain-parts r q.0 q.2 in

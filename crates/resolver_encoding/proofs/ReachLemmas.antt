@@ -14,22 +14,21 @@ use Rattle.resolver_clause_store.specs.Valid.{Constrains, Requires}
 use Rattle.resolver_clause_store.specs.declared.By.{By}
 use Rattle.resolver_clause_store.specs.declared.By.TheVariants.{Root as ByRoot, Solvable as BySolvable}
 use Rattle.resolver_clause_store.specs.declared.ClauseKind.{ClauseKind}
-use Rattle.resolver_clause_store.specs.declared.ClauseKind.TheVariants.{InstallRoot, Requires as RequiresKind, AnyOf, GateRequires}
-use Rattle.resolver_clause_store.specs.declared.ClauseKind.TheVariants.{Constrains as ConstrainsKind, ConstrainsExcluded, ConstrainsParent, HasBit, Lock}
-use Rattle.resolver_clause_store.specs.declared.ClauseKind.TheVariants.{Excluded}
+use Rattle.resolver_clause_store.specs.declared.ClauseKind.TheVariants.{InstallRoot, Requires as RequiresKind, Excluded}
+use Rattle.resolver_clause_store.specs.declared.Helper.TheVariants.{Condition}
+use Rattle.resolver_clause_store.specs.declared.Origin.TheVariants.{Root, Solvable, Helper}
 use Rattle.resolver_clause_store.specs.declared.ConditionalRequirement.{ConditionalRequirement}
 use Rattle.resolver_clause_store.specs.Literals.{Literal}
 use Rattle.resolver_clause_store.specs.declared.Origin.{Origin}
-use Rattle.resolver_clause_store.specs.declared.Origin.TheVariants.{Root, Solvable, Bit, Gate, ConstraintHelper, ConditionHelper}
 use Rattle.resolver_clause_store.specs.declared.Requirement.{Requirement}
 use Rattle.resolver_clause_store.specs.declared.VersionSetId.{VersionSetId}
 use Rattle.resolver_clause_store.proofs.NearLemmas.{IsNamed-within, IsNear-closed, IsNear-more, OptionalConditionHolds-within}
 use Rattle.resolver_clause_store.proofs.PlaceLemmas.{place_of_member}
 use Rattle.resolver_clause_store.specs.Statements.{IsPresent, AllMeet}
 use Rattle.resolver_clause_store.specs.TrueRules.{demands_by}
-use Rattle.resolver_encoding.specs.Atoms.{Atom, atom, atoms_of, origin_by, wanted}
+use Rattle.resolver_encoding.specs.Atoms.{Atom, atom, atoms_of, parent_of, wanted}
 use Rattle.resolver_encoding.specs.Called.{Call, IsDemanded, IsNamedBy, IsWantedBy, to_ask, to_see}
-use Rattle.resolver_encoding.specs.Encodings.{HasProperHelper, IsCallMade, IsEncoding, IsReadStep, IsTrueEntry, IsUnmet, Notes}
+use Rattle.resolver_encoding.specs.Encodings.{IsCallMade, IsEncoding, IsReadStep, IsTrueEntry, IsUnmet, Notes}
 use Rattle.resolver_encoding.specs.Reach.{AreNear}
 use Rattle.resolver_encoding.specs.ReadState.{Deferred}
 use Rattle.resolver_encoding.specs.SoFar.{IsBare, IsFiring, IsHalfRead, IsReadSoFar, IsReadingOf}
@@ -177,12 +176,9 @@ module _ {N S : Type 0} (u : Universe N S) (s : S) where
   not_root : (o : Origin N S) → o ≡ Root → o ≡ Solvable s → ⊥
   not_root o one other = cc
 
-  by_not : (by : By S) → IsIt (atom (origin_by by) false) → ⊥
-  by_not by it = true≢false (sym it.0)
-
-  helpers_not : (list : List VersionSetId) (a : Atom N S) → Contains (map (λ v. atom (ConditionHelper v) false) list) a → IsIt a → ⊥
+  helpers_not : (list : List VersionSetId) (a : Atom N S) → Contains (map (λ v. atom (Helper (Condition v)) false) list) a → IsIt a → ⊥
   helpers_not list a h it =
-      let w = Contains-map_back (λ (v : VersionSetId). atom (ConditionHelper v) false) list a h in
+      let w = Contains-map_back (λ (v : VersionSetId). atom (Helper (Condition v)) false) list a h in
       true≢false (sym it.0 ∙ ap (λ (b : Atom N S). b.positive) (sym w.2))
 
   candidate_is : (list : List S) (a : Atom N S) → Contains (map (λ t. atom (Solvable t) true) list) a → IsIt a → Contains list s
@@ -201,53 +197,25 @@ module _ {N S : Type 0} (u : Universe N S) (s : S) where
   neither : (a b c : Atom N S) → (IsIt a → ⊥) → (IsIt b → ⊥) → Contains (a ∷ b ∷ []) c → IsIt c → ⊥
   neither a b c first second h it = ⊎_elim first second (one_of_two a b c h it)
 
-  asks_for_it : (kind : ClauseKind N S) → HasProperHelper kind → (a : Atom N S) → Contains (atoms_of u kind) a → IsIt a → Contains (wanted u kind) s
-  asks_for_it InstallRoot proper a h it = absurd (not_root Root refl (only_atom (atom Root true) a h it).1)
-  asks_for_it (RequiresKind by disjunct r) proper a h it =
-      let helpers : List (Atom N S) = map (λ v. atom (ConditionHelper v) false) disjunct in
+  asks_for_it : (kind : ClauseKind N S) (a : Atom N S) → Contains (atoms_of u kind) a → IsIt a → Contains (wanted u kind) s
+  asks_for_it InstallRoot a h it = absurd (not_root Root refl (only_atom (atom Root true) a h it).1)
+  asks_for_it (RequiresKind parent disjunct r) a h it =
+      let helpers : List (Atom N S) = map (λ v. atom (Helper (Condition v)) false) disjunct.items in
       let candidates : List (Atom N S) = map (λ t. atom (Solvable t) true) (requirement_candidates u r) in
       ⊎_elim
-      (λ (is : atom (origin_by by) false ≡ a). absurd (by_not by (subst IsIt (sym is) it)))
+      (λ (is : atom (parent_of parent r) false ≡ a). absurd (true≢false (sym (subst IsIt (sym is) it).0)))
       (λ (later : Contains (helpers ++ candidates) a). ⊎_elim
-      (λ (helper : Contains helpers a). absurd (helpers_not disjunct a helper it))
+      (λ (helper : Contains helpers a). absurd (helpers_not disjunct.items a helper it))
       (λ (candidate : Contains candidates a). candidate_is (requirement_candidates u r) a candidate it)
       (Contains-append_cases helpers candidates a later))
-      (cons_cases (atom (origin_by by) false) (helpers ++ candidates) a h)
-  asks_for_it (GateRequires r) proper a h it =
-      let candidates : List (Atom N S) = map (λ t. atom (Solvable t) true) (requirement_candidates u r) in
-      ⊎_elim
-      (λ (is : atom (Gate r) false ≡ a). absurd (true≢false (sym (subst IsIt (sym is) it).0)))
-      (λ (candidate : Contains candidates a). candidate_is (requirement_candidates u r) a candidate it)
-      (cons_cases (atom (Gate r) false) candidates a h)
-  asks_for_it (AnyOf Root t) proper a h it = absurd proper
-  asks_for_it (AnyOf (Solvable q) t) proper a h it = absurd proper
-  asks_for_it (AnyOf (Bit n i) t) proper a h it = absurd proper
-  asks_for_it (AnyOf (ConstraintHelper v) t) proper a h it = absurd proper
-  asks_for_it (AnyOf (Gate r) t) proper a h it = absurd (neither (atom (Gate r) true) (atom (Solvable t) false) a (λ i. cc) (λ i. true≢false (sym i.0)) h it)
-  asks_for_it (AnyOf (ConditionHelper v) t) proper a h it =
-      absurd (neither (atom (ConditionHelper v) true) (atom (Solvable t) false) a (λ i. cc) (λ i. true≢false (sym i.0)) h it)
-  asks_for_it (ConstrainsKind by v t) proper a h it =
-      absurd (neither (atom (origin_by by) false) (atom (Solvable t) false) a (by_not by) (λ i. true≢false (sym i.0)) h it)
-  asks_for_it (ConstrainsExcluded t v) proper a h it =
-      absurd (neither (atom (Solvable t) false) (atom (ConstraintHelper v) true) a (λ i. true≢false (sym i.0)) (λ i. cc) h it)
-  asks_for_it (ConstrainsParent by v) proper a h it =
-      absurd (neither (atom (origin_by by) false) (atom (ConstraintHelper v) false) a (by_not by) (λ i. true≢false (sym i.0)) h it)
-  asks_for_it (HasBit n t i b) proper a h it = absurd (neither (atom (Solvable t) false) (atom (Bit n i) b) a (λ j. true≢false (sym j.0)) (λ j. cc) h it)
-  asks_for_it (Lock t q) proper a h it = absurd (neither (atom Root false) (atom (Solvable q) false) a (λ i. true≢false (sym i.0)) (λ i. true≢false (sym i.0)) h it)
-  asks_for_it (Excluded t reason) proper a h it = absurd (true≢false (sym (only_atom (atom (Solvable t) false) a h it).0))
+      (cons_cases (atom (parent_of parent r) false) (helpers ++ candidates) a h)
+  asks_for_it (Excluded t reason) a h it = absurd (true≢false (sym (only_atom (atom (Solvable t) false) a h it).0))
+  asks_for_it kind a h it = absurd (neither _ _ a (λ i. cc) (λ i. cc) h it)
 
   pub asked_seen : (root : Demands) (notes : Notes N S) → IsEncoding u root notes → (kind : ClauseKind N S) → Contains notes.kinds kind → Contains (wanted u kind) s →
       Contains notes.seen s
-  asked_seen root notes encoding (RequiresKind by disjunct r) inside asks = encoding.candidates by disjunct r inside s asks
-  asked_seen root notes encoding (GateRequires r) inside asks = encoding.gate_candidates r inside s asks
-  asked_seen root notes encoding InstallRoot inside asks = absurd (none_in s asks)
-  asked_seen root notes encoding (AnyOf helper t) inside asks = absurd (none_in s asks)
-  asked_seen root notes encoding (ConstrainsKind by v t) inside asks = absurd (none_in s asks)
-  asked_seen root notes encoding (ConstrainsExcluded t v) inside asks = absurd (none_in s asks)
-  asked_seen root notes encoding (ConstrainsParent by v) inside asks = absurd (none_in s asks)
-  asked_seen root notes encoding (HasBit n t i b) inside asks = absurd (none_in s asks)
-  asked_seen root notes encoding (Lock t q) inside asks = absurd (none_in s asks)
-  asked_seen root notes encoding (Excluded t reason) inside asks = absurd (none_in s asks)
+  asked_seen root notes encoding (RequiresKind parent disjunct r) inside asks = encoding.candidates parent disjunct r inside s asks
+  asked_seen root notes encoding kind inside asks = absurd (none_in s asks)
 
 -- the solvables of positive literals are registered
 pub positives_seen : {N S : Type 0} (u : Universe N S) (root : Demands) (notes : Notes N S) → IsEncoding u root notes → (clause : List Literal) →
@@ -265,4 +233,4 @@ positives_seen {N} {S} u root notes encoding clause listed l inside positive s s
     let a = (encoding.encoded.each number kind kind_at).atoms.each_literal l (subst Has (sym items) inside) in
     let origin : a.0.origin ≡ Solvable s = sym (get_or_from_slice_get notes.origins l.variable a.0.origin Root a.2.origin) ∙ stands in
     asked_seen u s root notes encoding kind has_kind
-    (asks_for_it u s kind (All-contains HasProperHelper notes.kinds kind encoding.each_proper has_kind) a.0 a.1 (sym a.2.positive ∙ positive, origin))
+    (asks_for_it u s kind a.0 a.1 (sym a.2.positive ∙ positive, origin))

@@ -1,7 +1,7 @@
 -- A finished trail makes an answer true, and each of its solvables is reached by need.
 use Rattle.resolver_encoding.specs.Truth.{HasLawfulSolvables}
 use Rattle.std.proofs.Common.{ℕ, ◌≡◌, List, ◌∷◌, Bool, true, inl, inr, sym, ◌∙◌, subst, ⊎_elim, Contains, All}
-use Rattle.std.specs.Prelude.{map, Option}
+use Rattle.std.specs.Prelude.{map, None, Option, Some}
 use Rattle.std.specs.Bool.{beq}
 use Rattle.std.proofs.lemmas.Bool.{cases_Bool}
 use Rattle.std.proofs.lemmas.List.Elements.{Contains-append_right, All-contains, All-map}
@@ -17,16 +17,16 @@ use Rattle.resolver_clause_store.specs.declared.By.TheVariants.{Root as ByRoot, 
 use Rattle.resolver_clause_store.specs.Statements.{IsPresent, AllMeet}
 use Rattle.resolver_clause_store.specs.TrueRules.{demands_by}
 use Rattle.resolver_clause_store.specs.declared.Origin.{Origin}
-use Rattle.resolver_clause_store.specs.declared.Origin.TheVariants.{Solvable, Gate}
+use Rattle.resolver_clause_store.specs.declared.ClauseKind.TheVariants.{Requires, Implies}
+use Rattle.resolver_clause_store.specs.declared.Helper.TheVariants.{Gate}
+use Rattle.resolver_clause_store.specs.declared.Origin.TheVariants.{Solvable}
 use Rattle.resolver_clause_store.specs.declared.ClauseKind.{ClauseKind}
-use Rattle.resolver_clause_store.specs.declared.ClauseKind.TheVariants.{Requires, AnyOf}
 use Rattle.resolver_clause_store.specs.Conditions.{IsActive, OptionalConditionHolds}
 use Rattle.resolver_clause_store.specs.declared.ConditionId.{ConditionId}
 use Rattle.resolver_encoding.specs.Atoms.{Atom, atom, atoms_of, is_on, is_satisfied}
 use Rattle.resolver_encoding.specs.Truth.{AreCodes, is_plain, follows, IsTrueClause, Spares}
 use Rattle.resolver_encoding.specs.Read.{AreValuesSettled, IsClosedPart}
-use Rattle.resolver_encoding.specs.TrailAtoms.{IsFirstOpen, IsBecause, needed, needed_gate, seeded, left_out, forced, IsTrail, begun, went_on, Takes}
-use Rattle.resolver_encoding.specs.TrailAtoms.{IsChosenBy}
+use Rattle.resolver_encoding.specs.TrailAtoms.{IsFirstOpen, IsBecause, needed, seeded, left_out, forced, IsTrail, begun, went_on, Takes, IsChosenBy}
 use Rattle.resolver_encoding.specs.TrailAtoms.{CoversReached, IsAnswerBy}
 use Rattle.resolver_encoding.proofs.Satisfied.{has-contains, contains-has, present, helper_meets, satisfied}
 use Rattle.resolver_encoding.proofs.Sound.{is_plain-parts, defines, valid_obeys}
@@ -73,13 +73,13 @@ module _ {N S : Type 0} (u : Universe N S) (root : Demands) (lawful : HasLawfulS
   part_of cl = record {
     taken = λ s inside. is_chosen.each_true s (cl.within s inside);
     closed = λ by disjunct r s clause here_is meets candidate taken.
-        let t = All-contains (IsTrueClause u codes root) kinds (Requires by disjunct r) are_true clause in
+        let t = All-contains (IsTrueClause u codes root) kinds (Requires (Some by) disjunct r) are_true clause in
         let active = OptionalConditionHolds-within u (Contains cl.part) (Contains chosen) cl.within t.0.condition
         (active_by u cl.part _ t.0.condition t.3 meets) in
         let Candidate : Requirement → Type 0 = λ q. Contains (requirement_candidates u q) s in
         cl.closed s (is_chosen.each_chosen s taken) (next_by by t.0 s cl.part here_is t.1 active (subst Candidate (sym t.2) candidate));
-    closed_gate = λ t r s clause inside implied candidate taken. gate_closed cl t r s inside
-        (All-contains (IsTrueClause u codes root) kinds (AnyOf (Gate r) t) are_true implied).1 candidate taken;
+    closed_gate = λ t r s inside implied candidate taken. gate_closed cl t r s inside
+        (All-contains (IsTrueClause u codes root) kinds (Implies t (Gate r) true) are_true implied).1 candidate taken;
   }
 
   module _ (cl : Closure u root lawful chosen seeds) where
@@ -98,13 +98,13 @@ module _ {N S : Type 0} (u : Universe N S) (root : Demands) (lawful : HasLawfulS
 
     because : (earlier : List (Atom N S)) → ((a : Atom N S) → Contains earlier a → value a.origin ≡ a.positive) → (a : Atom N S) → Contains trail a →
         IsBecause u kinds seeds refused earlier a → value a.origin ≡ a.positive
-    because earlier before a on_trail (needed by disjunct r s clause parent helpers candidate) =
+    because earlier before a on_trail (needed (Some by) disjunct r s clause parent helpers candidate) =
         let here_is = present u (follows u codes) lawful.same_solvable cl.part by (before _ parent) in
-        let meets : AllMeet cl.part (map (matching u) disjunct) = All-map (λ xs. Meets xs cl.part) (matching u) disjunct
+        let meets : AllMeet cl.part (map (matching u) disjunct.items) = All-map (λ xs. Meets xs cl.part) (matching u) disjunct.items
         (λ k d below. helper_meets u (follows u codes) lawful.same_solvable cl.part kinds (defines u root kinds codes are_codes are_true lawful.same_solvable) _
         (before _ (helpers k d below))) in
         of_part s ((part_of cl).closed by disjunct r s clause here_is meets (first_open_candidate u earlier r s candidate) on_trail)
-    because earlier before a on_trail (needed_gate r s clause gate candidate) =
+    because earlier before a on_trail (needed None disjunct r s clause gate helpers candidate) =
         let w = list_any-witness (follows u codes (Gate r)) cl.part (before _ gate) in
         of_part s (gate_closed cl w.0 r s w.1 w.2 (first_open_candidate u earlier r s candidate) on_trail)
     because earlier before a on_trail (seeded s seed) = of_part s (cl.closed s (is_chosen.each_chosen s on_trail) (inl seed))
@@ -146,7 +146,7 @@ module _ {N S : Type 0} (u : Universe N S) (root : Demands) (lawful : HasLawfulS
       (record {
         taken = is_chosen.each_true;
         closed = λ by disjunct r s clause here_is meets candidate taken. is_chosen.each_chosen s taken;
-        closed_gate = λ t r s clause inside implied candidate taken. is_chosen.each_chosen s taken;
+        closed_gate = λ t r s inside implied candidate taken. is_chosen.each_chosen s taken;
       })
 
 pub finished_is_answer : {N S : Type 0} (u : Universe N S) (codes : N → ℕ → S → Bool) (root : Demands) (kinds : List (ClauseKind N S)) (trail : List (Atom N S))

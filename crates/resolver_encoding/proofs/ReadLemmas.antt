@@ -1,7 +1,7 @@
 -- Solvables that were read stay read; the clauses when everything was read.
 use Rattle.std.proofs.Common.{◌≡◌, ◌⊎◌, ℕ, ◌<◌, ◌≤◌, length, List, [], ◌∷◌, ◌++◌, refl, sym, ap, ◌∙◌, subst, ⊎_elim, inl, inr, arith, Contains}
-use Rattle.std.proofs.Common.{All, Bool, true}
-use Rattle.std.specs.Prelude.{Some, slice_get}
+use Rattle.std.proofs.Common.{All, Bool}
+use Rattle.std.specs.Prelude.{None, Some, slice_get}
 use Rattle.std.specs.Cmp.{IsEquivalence}
 use Rattle.std.specs.List.{IsDistinct}
 use Rattle.std.proofs.lemmas.List.Elements.{All-contains, All-cons, All-nil, All-weaker}
@@ -18,15 +18,16 @@ use Rattle.resolver_clause_store.specs.Valid.{demands_of}
 use Rattle.resolver_clause_store.specs.declared.By.{By}
 use Rattle.resolver_clause_store.specs.declared.By.TheVariants.{Root as ByRoot, Solvable as BySolvable}
 use Rattle.resolver_clause_store.specs.declared.ClauseKind.{ClauseKind}
-use Rattle.resolver_clause_store.specs.declared.ClauseKind.TheVariants.{InstallRoot, Requires, GateRequires, HasBit, Lock, Excluded}
+use Rattle.resolver_clause_store.specs.declared.ClauseKind.TheVariants.{InstallRoot, Requires, Implies, Lock, Excluded}
+use Rattle.resolver_clause_store.specs.declared.Helper.TheVariants.{Bit}
+use Rattle.resolver_clause_store.specs.declared.Origin.TheVariants.{Root, Solvable, Helper}
 use Rattle.resolver_clause_store.specs.declared.ConditionalRequirement.{ConditionalRequirement}
 use Rattle.resolver_clause_store.specs.declared.Origin.{Origin}
-use Rattle.resolver_clause_store.specs.declared.Origin.TheVariants.{Root, Solvable, Bit, Gate, ConstraintHelper, ConditionHelper}
 use Rattle.resolver_clause_store.specs.declared.Requirement.{Requirement}
 use Rattle.resolver_clause_store.specs.declared.VersionSetId.{VersionSetId}
 use Rattle.resolver_clause_store.specs.Statements.{IsPresent}
 use Rattle.resolver_clause_store.specs.TrueRules.{demands_by}
-use Rattle.resolver_encoding.specs.Encodings.{AddsKind, IsRequirementKind, AreDemandsRead, AreNeedsRead, HasProperHelper, IsConstraintRead, IsEncoding, IsLeft}
+use Rattle.resolver_encoding.specs.Encodings.{AddsKind, IsRequirementKind, AreDemandsRead, AreNeedsRead, IsConstraintRead, IsEncoding, IsLeft}
 use Rattle.resolver_encoding.specs.Encodings.{IsUnread, Notes}
 use Rattle.resolver_encoding.specs.Read.{IsForbidden}
 use Rattle.resolver_encoding.specs.ReadState.{Deferred, HasClause, has_direct, has_gate, IsRead, IsReadRequirement}
@@ -35,7 +36,7 @@ use Rattle.resolver_encoding.specs.Truth.{IsTrueClause, no_codes}
 use Rattle.resolver_encoding.specs.Values.{IsClauseOf}
 use Rattle.resolver_clause_store.specs.Formula.{clause_at}
 use Rattle.resolver_clause_store.proofs.PlaceLemmas.{place_cases}
-use Rattle.resolver_encoding.proofs.EncodingLemmas.{IsForbidden-within, asks_not}
+use Rattle.resolver_encoding.proofs.EncodingLemmas.{HasGate-within, IsForbidden-within, asks_not}
 use Rattle.resolver_encoding.proofs.CodeLemmas.{apart_of_digits}
 use Rattle.resolver_clause_store.proofs.ListLemmas.{Contains-cons_cases as cons_cases, Contains-here as here, Contains-none as none_in, Contains-there as there}
 use Rattle.resolver_encoding.proofs.GroupLemmas.{named_of_number as IsNamed-at}
@@ -46,7 +47,7 @@ not_in {X} xs x e h = let Has : List X → Type 0 = λ list. Contains list x in 
 module _ {N S : Type 0} (u : Universe N S) (kinds more : List (ClauseKind N S)) (within : IsWithin kinds more) where
   pub HasClause-within : (by : By S) (list : List VersionSetId) (r : Requirement) → HasClause kinds by list r → HasClause more by list r
   HasClause-within by list r (has_direct disjunct is h) = has_direct disjunct is (within _ h)
-  HasClause-within by list r (has_gate s is none h k) = has_gate s is none (within _ h) (within _ k)
+  HasClause-within by list r (has_gate s is none h k) = has_gate s is none (within _ h) (HasGate-within kinds more within r k)
 
   pub IsReadRequirement-within : (Left More : Deferred S → Type 0) → ((e : Deferred S) → Left e → More e) → (by : By S) (r : ConditionalRequirement) →
       IsReadRequirement u kinds Left by r → IsReadRequirement u more More by r
@@ -82,19 +83,13 @@ module _ {N S : Type 0} where
   solvables_in [] = []
   solvables_in (Solvable s ∷ os) = s ∷ solvables_in os
   solvables_in (Root ∷ os) = solvables_in os
-  solvables_in (Bit n i ∷ os) = solvables_in os
-  solvables_in (Gate r ∷ os) = solvables_in os
-  solvables_in (ConstraintHelper v ∷ os) = solvables_in os
-  solvables_in (ConditionHelper v ∷ os) = solvables_in os
+  solvables_in (Helper h ∷ os) = solvables_in os
 
   no_more : (os : List (Origin N S)) → length (solvables_in os) ≤ length os
   no_more [] = omega arith
   no_more (Solvable s ∷ os) = let rest = no_more os in omega (arith, rest)
   no_more (Root ∷ os) = let rest = no_more os in omega (arith, rest)
-  no_more (Bit n i ∷ os) = let rest = no_more os in omega (arith, rest)
-  no_more (Gate r ∷ os) = let rest = no_more os in omega (arith, rest)
-  no_more (ConstraintHelper v ∷ os) = let rest = no_more os in omega (arith, rest)
-  no_more (ConditionHelper v ∷ os) = let rest = no_more os in omega (arith, rest)
+  no_more (Helper h ∷ os) = let rest = no_more os in omega (arith, rest)
 
   solvable_in : (os : List (Origin N S)) (s : S) → Contains os (Solvable s) → Contains (solvables_in os) s
   solvable_in [] s h = absurd (none_in (Solvable s) h)
@@ -105,16 +100,8 @@ module _ {N S : Type 0} where
       (cons_cases (Solvable t) os (Solvable s) h)
   solvable_in (Root ∷ os) s h = ⊎_elim (λ (is : Root ≡ Solvable s). absurd cc) (λ (later : Contains os (Solvable s)). solvable_in os s later)
       (cons_cases Root os (Solvable s) h)
-  solvable_in (Bit n i ∷ os) s h =
-      ⊎_elim (λ (is : Bit n i ≡ Solvable s). absurd cc) (λ (later : Contains os (Solvable s)). solvable_in os s later) (cons_cases (Bit n i) os (Solvable s) h)
-  solvable_in (Gate r ∷ os) s h =
-      ⊎_elim (λ (is : Gate r ≡ Solvable s). absurd cc) (λ (later : Contains os (Solvable s)). solvable_in os s later) (cons_cases (Gate r) os (Solvable s) h)
-  solvable_in (ConstraintHelper v ∷ os) s h =
-      ⊎_elim (λ (is : ConstraintHelper v ≡ Solvable s). absurd cc) (λ (later : Contains os (Solvable s)). solvable_in os s later)
-      (cons_cases (ConstraintHelper v) os (Solvable s) h)
-  solvable_in (ConditionHelper v ∷ os) s h =
-      ⊎_elim (λ (is : ConditionHelper v ≡ Solvable s). absurd cc) (λ (later : Contains os (Solvable s)). solvable_in os s later)
-      (cons_cases (ConditionHelper v) os (Solvable s) h)
+  solvable_in (Helper g ∷ os) s h =
+      ⊎_elim (λ (is : Helper g ≡ Solvable s). absurd cc) (λ (later : Contains os (Solvable s)). solvable_in os s later) (cons_cases (Helper g) os (Solvable s) h)
 
   -- there are no more registered solvables than variables
   pub seen_fit : (same : S → S → Bool) → IsIdentity same → IsEquivalence same → (seen : List S) (os : List (Origin N S)) → IsDistinct same seen →
@@ -141,13 +128,13 @@ module _ {N S : Type 0} (u : Universe N S) where
 
   pub packages_of : (root : Demands) (notes : Notes N S) → IsEncoding u root notes → (by : By S) (list : List VersionSetId) (r : Requirement) →
       HasClause notes.kinds by list r → (v : VersionSetId) → Contains (version_sets u r) v → Contains notes.asked (u.version_set_name v)
-  packages_of root notes encoding by list r (has_direct disjunct is h) v k = encoding.packages by disjunct r h v k
-  packages_of root notes encoding by list r (has_gate s is none h g) v k = encoding.gate_packages r g v k
+  packages_of root notes encoding by list r (has_direct disjunct is h) v k = encoding.packages (Some by) disjunct r h v k
+  packages_of root notes encoding by list r (has_gate s is none h gate) v k = encoding.packages None gate.0 r gate.2 v k
 
   candidates_of : (root : Demands) (notes : Notes N S) → IsEncoding u root notes → (by : By S) (list : List VersionSetId) (r : Requirement) →
       HasClause notes.kinds by list r → (s : S) → Contains (requirement_candidates u r) s → Contains notes.seen s
-  candidates_of root notes encoding by list r (has_direct disjunct is h) s k = encoding.candidates by disjunct r h s k
-  candidates_of root notes encoding by list r (has_gate t is none h g) s k = encoding.gate_candidates r g s k
+  candidates_of root notes encoding by list r (has_direct disjunct is h) s k = encoding.candidates (Some by) disjunct r h s k
+  candidates_of root notes encoding by list r (has_gate t is none h gate) s k = encoding.candidates None gate.0 r gate.2 s k
 
   -- the clauses cover everything that was read, except for deferred disjuncts
   pub so_far_read : (root : Demands) (notes : Notes N S) → IsHalfRead u root notes →
@@ -162,7 +149,7 @@ module _ {N S : Type 0} (u : Universe N S) where
             (All-contains (IsConstraintRead u notes.kinds by) (demands_by u root by).constraints v
             (demands_read root notes half by present).constraints asks) other;
         unknowns = λ s reason h is. let Read : Needs → Type 0 = λ n. AreNeedsRead u notes s n in subst Read is (half.each_read s h);
-        helpers = λ by disjunct r h v k s m. encoding.follow v (encoding.helpers by disjunct r h v k) s m;
+        helpers = λ parent disjunct r h v k s m. encoding.follow v (encoding.helpers parent disjunct r h v k) s m;
         packages = λ by list r h v k. packages_of root notes encoding by list r h v k;
         candidates = λ by list r h s k. candidates_of root notes encoding by list r h s k;
         locks = encoding.locks;
@@ -198,7 +185,6 @@ module _ {N S : Type 0} (u : Universe N S) where
         codes = no_codes;
         own_codes = record { named = λ n i s e. absurd (false≢true e) };
         each_true = All-cons (IsTrueClause u no_codes root) InstallRoot [] tt (All-nil (IsTrueClause u no_codes root));
-        each_proper = All-cons HasProperHelper InstallRoot [] tt (All-nil HasProperHelper);
         due = record {
           locks = λ s t h. absurd (not_there (Lock s t) (λ q. cc) h);
           exclusions = λ s reason h. absurd (not_there (Excluded s reason) (λ q. cc) h);
@@ -207,12 +193,10 @@ module _ {N S : Type 0} (u : Universe N S) where
         listed = λ n kind at asks. let Asks : ClauseKind N S → Type 0 = λ k. IsRequirementKind k in
             absurd (asks_not {N = N} {S = S} InstallRoot tt (subst Asks (sym (is_install n kind at).1) asks));
         ask = λ n h. absurd (not_in old.requirements n unread.no_requirements h);
-        helpers = λ by disjunct r h. absurd (not_there (Requires by disjunct r) (λ q. cc) h);
-        packages = λ by disjunct r h. absurd (not_there (Requires by disjunct r) (λ q. cc) h);
-        candidates = λ by disjunct r h. absurd (not_there (Requires by disjunct r) (λ q. cc) h);
-        once = λ by disjunct r h. absurd (not_there (Requires by disjunct r) (λ q. cc) h);
-        gate_packages = λ r h. absurd (not_there (GateRequires r) (λ q. cc) h);
-        gate_candidates = λ r h. absurd (not_there (GateRequires r) (λ q. cc) h);
+        helpers = λ parent disjunct r h. absurd (not_there (Requires parent disjunct r) (λ q. cc) h);
+        packages = λ parent disjunct r h. absurd (not_there (Requires parent disjunct r) (λ q. cc) h);
+        candidates = λ parent disjunct r h. absurd (not_there (Requires parent disjunct r) (λ q. cc) h);
+        once = λ parent disjunct r h. absurd (not_there (Requires parent disjunct r) (λ q. cc) h);
         gated = λ r h. absurd (not_in old.gates r unread.no_gates h);
         excluded = λ v h. absurd (not_in old.constrained v unread.none_constrained h);
         follow = λ v h. absurd (not_in old.helped v unread.none_helped h);
@@ -221,7 +205,7 @@ module _ {N S : Type 0} (u : Universe N S) where
         registered = λ s h. absurd (not_in old.seen s unread.none_seen h);
         placed = λ n k s at. absurd (unread.no_groups n s (IsNamed-at old.groups n k s at));
         coding = λ c h. absurd (none_in c h);
-        coded = λ n s i b h. absurd (not_there (HasBit n s i b) (λ q. cc) h);
+        coded = λ n s i b h. absurd (not_there (Implies s (Bit n i) b) (λ q. cc) h);
         digits = λ n j k s t at. absurd (unread.no_groups n s (IsNamed-at old.groups n j s at));
         sound_groups = unread.sound_groups;
         grouped = λ s h. absurd (not_in old.seen s unread.none_seen h);

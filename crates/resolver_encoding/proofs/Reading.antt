@@ -79,7 +79,7 @@ module _ {N S : Type 0} (u : Universe N S) (ids : HasLawfulSolvables u) (package
         IsMade u kinds part by r
     is_made part by r list meets (has_direct disjunct is clause) =
         let Meet : List VersionSetId → Type 0 = λ vs. AllMeet part (map (matching u) vs) in made_direct disjunct (subst Meet (sym is) meets) clause
-    is_made part by r list meets (has_gate s is none implied clause) = made_gated s is implied clause
+    is_made part by r list meets (has_gate s is none implied gate) = made_gated s is implied gate
 
     pub covers_reached : CoversReached u root kinds chosen seeds exempt
     covers_reached part within reached = record {

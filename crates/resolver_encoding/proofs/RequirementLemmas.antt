@@ -13,10 +13,10 @@ use Rattle.resolver_clause_store.specs.Valid.{demands_of}
 use Rattle.resolver_clause_store.specs.declared.By.{By}
 use Rattle.resolver_clause_store.specs.declared.By.TheVariants.{Solvable as BySolvable}
 use Rattle.resolver_clause_store.specs.declared.ClauseKind.{ClauseKind}
-use Rattle.resolver_clause_store.specs.declared.ClauseKind.TheVariants.{AnyOf, ConstrainsParent}
+use Rattle.resolver_clause_store.specs.declared.ClauseKind.TheVariants.{Implies as ImpliesKind, Constrains}
+use Rattle.resolver_clause_store.specs.declared.Helper.TheVariants.{Gate}
 use Rattle.resolver_clause_store.specs.declared.ConditionId.{ConditionId}
 use Rattle.resolver_clause_store.specs.declared.ConditionalRequirement.{ConditionalRequirement}
-use Rattle.resolver_clause_store.specs.declared.Origin.TheVariants.{Gate}
 use Rattle.resolver_clause_store.specs.declared.Requirement.{Requirement}
 use Rattle.resolver_clause_store.specs.declared.VersionSetId.{VersionSetId}
 use Rattle.resolver_encoding.specs.Called.{Call, IsCalledBy, IsCalledByEach, IsNamedBy, IsPlainlyNamed, IsSeeingEach, IsWantedBy, to_ask, to_see}
@@ -215,7 +215,7 @@ module _ {N S : Type 0} (u : Universe N S) where
 
   -- a solvable has a clause for a requirement whose gate it implies
   pub gate_read : (Premise : Demands → Type 0) (old new : Notes N S) (s : S) (r : Requirement) → IsEncodingOf u Premise old → IsStep u Premise old new →
-      Contains new.gates r → Contains new.kinds (AnyOf (Gate r) s) → HasClause new.kinds (BySolvable s) [] r
+      Contains new.gates r → Contains new.kinds (ImpliesKind s (Gate r) true) → HasClause new.kinds (BySolvable s) [] r
   gate_read Premise old new s r before step gate implied =
       let now = IsEncodingOf-step u Premise old new before step in
       has_gate s refl refl implied (now.encoding.gated r gate)
@@ -223,7 +223,7 @@ module _ {N S : Type 0} (u : Universe N S) where
   -- a constraint of the root or of a solvable whose clause excludes the helper
   pub constraint_read : (old new : Notes N S) (by : By S) (v : VersionSetId) → IsEncodingOf u (HasConstraint u by v) old →
       IsStep u (HasConstraint u by v) old new →
-      Contains new.constrained v → Contains new.kinds (ConstrainsParent by v) → IsConstraintRead u new.kinds by v
+      Contains new.constrained v → Contains new.kinds (Constrains by v None) → IsConstraintRead u new.kinds by v
   constraint_read old new by v before step helped parent =
       let now = IsEncodingOf-step u (HasConstraint u by v) old new before step in
       All-weaker (Contains (others u v)) (IsForbidden new.kinds by v) (λ s h. forbidden_helped parent (now.encoding.excluded v helped s h)) (others u v)

@@ -1,7 +1,7 @@
 -- A solvable gets its code, and is then noted.
 use Rattle.std.proofs.Common.{◌≡◌, ◌≢◌, ◌⊎◌, ℕ, ◌+◌, ◌-◌, ◌^◌, ◌<◌, ◌≤◌, length, List, [], ◌∷◌, ◌++◌, arith, refl, sym, ap, ◌∙◌, subst, ⊎_elim, inl, inr}
 use Rattle.std.proofs.Common.{Contains, All, Bool, true, false, get_or}
-use Rattle.std.specs.Prelude.{Some, slice_get, map, ⊤}
+use Rattle.std.specs.Prelude.{None, Some, slice_get, map, ⊤}
 use Rattle.std.proofs.lemmas.Bool.{cases_Bool, cases_eq}
 use Rattle.std.proofs.lemmas.Option.{slice_get-get_or}
 use Rattle.std.proofs.lemmas.List.Elements.{All-contains, Contains-get_or, Contains-push, Contains-push_cases}
@@ -9,12 +9,12 @@ use Rattle.resolver_clause_store.specs.Laws.{IsIdentity}
 use Rattle.resolver_clause_store.specs.Lists.{IsWithin}
 use Rattle.resolver_clause_store.specs.Universe.{Universe, Demands}
 use Rattle.resolver_clause_store.specs.declared.ClauseKind.{ClauseKind}
-use Rattle.resolver_clause_store.specs.declared.ClauseKind.TheVariants.{InstallRoot, Requires, AnyOf, GateRequires, Constrains, ConstrainsExcluded}
-use Rattle.resolver_clause_store.specs.declared.ClauseKind.TheVariants.{ConstrainsParent, HasBit, Lock, Excluded}
-use Rattle.resolver_clause_store.specs.declared.Origin.TheVariants.{Root, Solvable, Bit, Gate, ConstraintHelper, ConditionHelper}
+use Rattle.resolver_clause_store.specs.declared.ClauseKind.TheVariants.{Requires, Implies, Constrains}
+use Rattle.resolver_clause_store.specs.declared.Helper.TheVariants.{Bit}
+use Rattle.resolver_clause_store.specs.declared.Origin.TheVariants.{Solvable}
 use Rattle.resolver_encoding.specs.Called.{Call, IsSeeing, to_ask, to_see}
 use Rattle.resolver_encoding.specs.Codes.{bit}
-use Rattle.resolver_encoding.specs.Encodings.{AddsKind, Coding, Extends, HasProperHelper, IsAskStep, IsCallMade, IsEncoding, IsEncodingWhile, IsStepWhile}
+use Rattle.resolver_encoding.specs.Encodings.{AddsKind, Coding, Extends, IsAskStep, IsCallMade, IsEncoding, IsEncodingWhile, IsStepWhile}
 use Rattle.resolver_encoding.specs.Encodings.{Notes, coding_for}
 use Rattle.resolver_encoding.specs.Groups.{AddsNamed, AreGroups, IsAt, IsInGroup}
 use Rattle.resolver_encoding.specs.declared.groups.Groups.{Groups}
@@ -43,20 +43,20 @@ place_of_item xs i x below is = slice_get-get_or xs i x below ∙ ap Some (sym i
 
 -- each element of a list has the digit that begins with the number
 pub digit_begun : {N S : Type 0} (kinds : List (ClauseKind N S)) (n : N) (list : List S) (number index i k : ℕ) (t : S) →
-    All (λ r. Contains kinds (HasBit n r index false)) list → number ≡ 2 ^ index → number ≡ 2 ^ i →
-    slice_get list k ≡ Some t → k < number → Contains kinds (HasBit n t i (bit k i))
+    All (λ r. Contains kinds (Implies r (Bit n index) false)) list → number ≡ 2 ^ index → number ≡ 2 ^ i →
+    slice_get list k ≡ Some t → k < number → Contains kinds (Implies t (Bit n i) (bit k i))
 digit_begun {N} {S} kinds n list number index i k t all one other at below =
-    let Has : ℕ → Bool → Type 0 = λ j b. Contains kinds (HasBit n t j b) in
+    let Has : ℕ → Bool → Type 0 = λ j b. Contains kinds (Implies t (Bit n j) b) in
     let same : index ≡ i = pow_same index i (sym one ∙ other) in
     subst (λ b. Has i b) (sym (no_digit k i (omega (arith, below, other))))
-    (subst (λ j. Has j false) same (All-contains (λ r. Contains kinds (HasBit n r index false)) list t all (place_in list k t at)))
+    (subst (λ j. Has j false) same (All-contains (λ r. Contains kinds (Implies r (Bit n index) false)) list t all (place_in list k t at)))
 
 -- one more digit has its clauses
 pub more_digits : {N S : Type 0} (kinds more : List (ClauseKind N S)) (n : N) (k : ℕ) (s : S) (count : ℕ) (b : Bool) → IsWithin kinds more →
-    ((i : ℕ) → i < count → Contains kinds (HasBit n s i (bit k i))) →
-    b ≡ bit k count → Contains more (HasBit n s count b) → (i : ℕ) → i < count + 1 → Contains more (HasBit n s i (bit k i))
+    ((i : ℕ) → i < count → Contains kinds (Implies s (Bit n i) (bit k i))) →
+    b ≡ bit k count → Contains more (Implies s (Bit n count) b) → (i : ℕ) → i < count + 1 → Contains more (Implies s (Bit n i) (bit k i))
 more_digits {N} {S} kinds more n k s count b within before is added i below =
-    let Has : ℕ → Bool → Type 0 = λ j d. Contains more (HasBit n s j d) in
+    let Has : ℕ → Bool → Type 0 = λ j d. Contains more (Implies s (Bit n j) d) in
     ⊎_elim
     (λ (same : i ≡ count). subst (λ j. Has j (bit k j)) (sym same) (subst (λ d. Has count d) is added))
     (λ (differ : i ≢ count). within _ (before i (omega (arith, below, differ))))
@@ -94,23 +94,15 @@ module _ {N S : Type 0} (u : Universe N S) where
     }
 
     -- a clause that mentions no digit of the solvable is still true
-    still_true : (codes : N → ℕ → S → Bool) (root : Demands) (kind : ClauseKind N S) → HasProperHelper kind →
-        ((m : N) (t : S) (i : ℕ) (b : Bool) → kind ≡ HasBit m t i b → t ≡ s → ⊥) → IsTrueClause u codes root kind → IsTrueClause u (coded_also codes) root kind
-    still_true codes root InstallRoot proper apart h = tt
-    still_true codes root (Requires by disjunct r) proper apart h = h
-    still_true codes root (AnyOf (ConditionHelper v) t) proper apart h = h
-    still_true codes root (AnyOf (Gate r) t) proper apart h = h
-    still_true codes root (AnyOf Root t) proper apart h = absurd proper
-    still_true codes root (AnyOf (Solvable r) t) proper apart h = absurd proper
-    still_true codes root (AnyOf (Bit m i) t) proper apart h = absurd proper
-    still_true codes root (AnyOf (ConstraintHelper v) t) proper apart h = absurd proper
-    still_true codes root (Constrains by v t) proper apart h = h
-    still_true codes root (GateRequires r) proper apart h = tt
-    still_true codes root (ConstrainsExcluded t v) proper apart h = h
-    still_true codes root (ConstrainsParent by v) proper apart h = h
-    still_true codes root (HasBit m t i b) proper apart h = (h.0, coded_as_before codes m i t (apart m t i b refl) ∙ h.1)
-    still_true codes root (Lock t r) proper apart h = h
-    still_true codes root (Excluded t reason) proper apart h = h
+    still_true : (codes : N → ℕ → S → Bool) (root : Demands) (kind : ClauseKind N S) →
+        ((m : N) (t : S) (i : ℕ) (b : Bool) → kind ≡ Implies t (Bit m i) b → t ≡ s → ⊥) → IsTrueClause u codes root kind →
+        IsTrueClause u (coded_also codes) root kind
+    still_true codes root (Implies t (Bit m i) b) apart h = (h.0, coded_as_before codes m i t (apart m t i b refl) ∙ h.1)
+    still_true codes root (Requires (Some by) disjunct r) apart h = h
+    still_true codes root (Requires None disjunct r) apart h = tt
+    still_true codes root (Constrains by v (Some t)) apart h = h
+    still_true codes root (Constrains by v None) apart h = h
+    still_true codes root kind apart h = h
 
     -- a solvable that is about to get its code
     pub coding_opened : (root : Demands) (old : Notes N S) → u.name s ≡ n → (Contains old.seen s → ⊥) → IsEncoding u root old →
@@ -119,7 +111,7 @@ module _ {N S : Type 0} (u : Universe N S) where
         let Seen : S → Type 0 = λ t. Contains old.seen t in
         let own = coded_own start.codes name start.own_codes in
         let each_true : All (IsTrueClause u (coded_also start.codes) root) old.kinds =
-        λ p d below. still_true start.codes root (get_or old.kinds p d) (start.each_proper p d below)
+        λ p d below. still_true start.codes root (get_or old.kinds p d)
         (λ m t i b is same.
         let Has : ClauseKind N S → Type 0 = λ q. Contains old.kinds q in
         ⊎_elim
@@ -134,29 +126,28 @@ module _ {N S : Type 0} (u : Universe N S) where
         let coding = λ (c : Coding N S) (h : Contains (one ∷ []) c) (i : ℕ).
         let Coded : Coding N S → Type 0 = λ q. coded_also start.codes q.name i q.instance ≡ bit q.number i in
         ⊎_elim (λ (is : one ≡ c). subst Coded is (coded_here start.codes i)) (λ (none : Contains [] c). absurd (none_in c none)) (cons_cases one [] c h) in
-        let coded : (m : N) (t : S) (i : ℕ) (b : Bool) → Contains old.kinds (HasBit m t i b) → Contains old.seen t ⊎ Contains (s ∷ []) t =
+        let coded : (m : N) (t : S) (i : ℕ) (b : Bool) → Contains old.kinds (Implies t (Bit m i) b) → Contains old.seen t ⊎ Contains (s ∷ []) t =
         λ m t i b h. ⊎_elim (λ seen. inl seen) (λ none. absurd (none_in t none)) (start.coded m t i b h) in
         search
 
     -- one more clause of the code of the solvable
-    pub IsStep-own : (old new : Notes N S) (i : ℕ) (b : Bool) → AddsKind u (HasBit n s i b) old new → u.name s ≡ n → b ≡ bit k i →
+    pub IsStep-own : (old new : Notes N S) (i : ℕ) (b : Bool) → AddsKind u (Implies s (Bit n i) b) old new → u.name s ≡ n → b ≡ bit k i →
         IsStepWhile u (coding_for n k s) (λ root. ⊤) old new
     IsStep-own old new i b adds name is =
         let one : Coding N S = record { name = n; number = k; instance = s } in
-        IsStep-kind u (coding_for n k s) (λ root. ⊤) old new (HasBit n s i b) adds
-        (λ root _ before codes has. (name, has.coding one (here one []) i ∙ sym is)) tt tt (inr (here s []))
+        IsStep-kind u (coding_for n k s) (λ root. ⊤) old new (Implies s (Bit n i) b) adds
+        (λ root _ before codes has. (name, has.coding one (here one []) i ∙ sym is)) tt (inr (here s []))
 
     -- an earlier solvable has the digit that begins with the new number, and it is not set
-    pub IsStep-begun : (old new : Notes N S) (i j : ℕ) (t : S) → AddsKind u (HasBit n t i false) old new → k ≡ 2 ^ i →
+    pub IsStep-begun : (old new : Notes N S) (i j : ℕ) (t : S) → AddsKind u (Implies t (Bit n i) false) old new → k ≡ 2 ^ i →
         (AreGroups old.groups → j < k) → IsAt old.groups n j t → IsStepWhile u (coding_for n k s) (λ root. ⊤) old new
     IsStep-begun old new i j t adds begins below at =
-        IsStep-clause u (coding_for n k s) (λ root. ⊤) old new (HasBit n t i false) adds
+        IsStep-clause u (coding_for n k s) (λ root. ⊤) old new (Implies t (Bit n i) false) adds
         (λ root _ before.
         let member = before.members n t (named_of_number old.groups n j t at) in
         let less : j < 2 ^ i = omega (arith, begins, below before.sound_groups) in
         record {
           is_true = λ codes has. (member.0, has.placed n j t at i ∙ no_digit j i less);
-          proper = tt;
           due = tt;
           prepared = inl member.1;
         })
@@ -175,8 +166,8 @@ module _ {N S : Type 0} (u : Universe N S) where
         (AreGroups mid.groups → AddsNamed mid.groups groups n s) → Contains mid.origins (Solvable s) →
         ((j : ℕ) (t : S) → slice_get list j ≡ Some t → IsAt old.groups n j t) →
         (AreGroups old.groups → (j : ℕ) (t : S) → IsAt old.groups n j t → slice_get list j ≡ Some t) → k ≡ length list →
-        ((i : ℕ) → 2 ^ i ≤ k → Contains mid.kinds (HasBit n s i (bit k i))) →
-        ((i : ℕ) → k ≡ 2 ^ i → AreGroups old.groups → (j : ℕ) (t : S) → IsAt old.groups n j t → Contains mid.kinds (HasBit n t i (bit j i))) →
+        ((i : ℕ) → 2 ^ i ≤ k → Contains mid.kinds (Implies s (Bit n i) (bit k i))) →
+        ((i : ℕ) → k ≡ 2 ^ i → AreGroups old.groups → (j : ℕ) (t : S) → IsAt old.groups n j t → Contains mid.kinds (Implies t (Bit n i) (bit j i))) →
         IsAskStep u (IsSeeing s) (λ root. ⊤) old new
     IsStep-seen old mid new groups list name absent step same_groups same_seen e adds has each every count own begun =
         let Step : Notes N S → Type 0 = λ m. IsAskStep u (IsSeeing s) (λ root. ⊤) old m in
@@ -192,7 +183,7 @@ module _ {N S : Type 0} (u : Universe N S) where
 
         -- an earlier solvable has the digits of the new number: a digit began with it, or was there before
         earlier_digit : {root : Demands} → IsEncodingWhile u (coding_for n k s) root mid → (j : ℕ) (t : S) → IsAt mid.groups n j t → (i : ℕ) → 2 ^ i ≤ k →
-            Contains mid.kinds (HasBit n t i (bit j i))
+            Contains mid.kinds (Implies t (Bit n i) (bit j i))
         earlier_digit before j t at i reached =
             let sound : AreGroups old.groups = subst (λ gs. AreGroups gs) same_groups before.sound_groups in
             ⊎_elim
@@ -225,7 +216,7 @@ module _ {N S : Type 0} (u : Universe N S) where
             subst (λ q. Coded q j t) (sym is.0) (subst (λ a. Coded n a t) (sym (is.1 ∙ number)) (subst (λ r. Coded n k r) (sym is.2) here_coded)))
             (added.only_at m j t at) in
             let coding : (c : Coding N S) → Contains [] c → (i : ℕ) → before.codes c.name i c.instance ≡ bit c.number i = λ c h i. absurd (none_in c h) in
-            let coded : (m : N) (t : S) (i : ℕ) (b : Bool) → Contains mid.kinds (HasBit m t i b) → Seen t ⊎ Contains [] t =
+            let coded : (m : N) (t : S) (i : ℕ) (b : Bool) → Contains mid.kinds (Implies t (Bit m i) b) → Seen t ⊎ Contains [] t =
             λ m t i b h. inl (⊎_elim (λ seen. more t seen) (λ own_one. ⊎_elim
             (λ (is : s ≡ t). subst Seen is (Contains-push mid.seen s))
             (λ (none : Contains [] t). absurd (none_in t none))
@@ -234,12 +225,12 @@ module _ {N S : Type 0} (u : Universe N S) where
             (λ (t_before : IsAt mid.groups m j t). ⊎_elim
             (λ (r_before : IsAt mid.groups m p r). before.digits m j p t r t_before r_before i reached)
             (λ (is : (m ≡ n) × (p ≡ added.number) × (r ≡ s)).
-            let Digit : N → Type 0 = λ q. Contains mid.kinds (HasBit q t i (bit j i)) in
+            let Digit : N → Type 0 = λ q. Contains mid.kinds (Implies t (Bit q i) (bit j i)) in
             let up_to : 2 ^ i ≤ k = omega (arith, reached, is.1, number) in
             subst Digit (sym is.0) (earlier_digit before j t (subst (λ q. At mid.groups q j t) is.0 t_before) i up_to))
             (added.only_at m p r to))
             (λ (is : (m ≡ n) × (j ≡ added.number) × (t ≡ s)).
-            let Digit : N → ℕ → S → Type 0 = λ q a x. Contains mid.kinds (HasBit q x i (bit a i)) in
+            let Digit : N → ℕ → S → Type 0 = λ q a x. Contains mid.kinds (Implies x (Bit q i) (bit a i)) in
             let largest : p ≤ k = ⊎_elim
             (λ (r_before : IsAt mid.groups m p r). let less : p < added.number = added.below p r (subst (λ q. At mid.groups q p r) is.0 r_before) in
             omega (arith, less, number))
@@ -256,4 +247,4 @@ module _ {N S : Type 0} (u : Universe N S) where
             (λ earlier. let w = before.members m t earlier in (w.0, more t w.1))
             (λ (is : (m ≡ n) × (t ≡ s)). (ap u.name is.1 ∙ name ∙ sym is.0, subst Seen (sym is.1) (Contains-push mid.seen s)))
             (added.only m t h) in
-            search (added.sound, before.candidates, before.gate_candidates)
+            search (added.sound, before.candidates)

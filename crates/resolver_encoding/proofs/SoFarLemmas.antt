@@ -15,8 +15,8 @@ use Rattle.resolver_clause_store.specs.Valid.{demands_of}
 use Rattle.resolver_clause_store.specs.declared.By.{By}
 use Rattle.resolver_clause_store.specs.declared.By.TheVariants.{Root as ByRoot, Solvable as BySolvable}
 use Rattle.resolver_clause_store.specs.declared.ClauseKind.TheVariants.{Excluded}
-use Rattle.resolver_clause_store.specs.declared.ConditionalRequirement.{ConditionalRequirement}
 use Rattle.resolver_clause_store.specs.declared.Origin.TheVariants.{Solvable}
+use Rattle.resolver_clause_store.specs.declared.ConditionalRequirement.{ConditionalRequirement}
 use Rattle.resolver_clause_store.specs.declared.Requirement.{Requirement}
 use Rattle.resolver_clause_store.specs.declared.VersionSetId.{VersionSetId}
 use Rattle.resolver_clause_store.proofs.PlaceLemmas.{place_left, place_of_member}

@@ -1,50 +1,17 @@
 -- The literals of a clause, its kind, and the origins that it mentions.
 use Rattle.std.proofs.Common.{◌≡◌, ◌<◌, ℕ, List, [], ◌∷◌, ◌++◌, refl, sym, ap, ◌∙◌, subst}
-use Rattle.std.proofs.Common.{Bool, false, length, arith}
-use Rattle.std.specs.Prelude.{Option, Some, None, get_or, slice_get, take}
-use Rattle.std.specs.List.{AllZip}
+use Rattle.std.proofs.Common.{length, arith}
+use Rattle.std.specs.Prelude.{Some, get_or, slice_get, take}
 use Rattle.std.proofs.lemmas.List.{ext_get_or, get_or-take, length-take-le}
 use Rattle.std.proofs.lemmas.Option.{get_or_from_slice_get, slice_get-get_or, slice_get_within}
 use Rattle.resolver_clause_store.specs.Universe.{Universe}
 use Rattle.resolver_clause_store.specs.Variables.{Keeps}
-use Rattle.resolver_clause_store.specs.declared.By.{By}
-use Rattle.resolver_clause_store.specs.declared.By.TheVariants.{Solvable as BySolvable}
 use Rattle.resolver_clause_store.specs.declared.ClauseKind.{ClauseKind}
-use Rattle.resolver_clause_store.specs.declared.ClauseKind.TheVariants.{Constrains}
 use Rattle.resolver_clause_store.specs.Literals.{Literal}
 use Rattle.resolver_clause_store.specs.declared.Origin.{Origin}
-use Rattle.resolver_clause_store.specs.declared.Origin.TheVariants.{Solvable}
-use Rattle.resolver_clause_store.specs.declared.VersionSetId.{VersionSetId}
-use Rattle.resolver_encoding.specs.Atoms.{Atom, atom, front, origin_by}
 use Rattle.resolver_encoding.specs.Encodings.{Grows, Notes, numbers_with}
-use Rattle.resolver_encoding.specs.Tables.{HasAdded, IsBeside, IsSecond, Table, beside_it, is_itself, second_again, second_is}
-use Rattle.resolver_encoding.specs.Values.{IsAtom, IsClauseOf}
-use Rattle.resolver_encoding.proofs.ClauseLemmas.{AreAtoms-twice}
-use Rattle.resolver_encoding.proofs.EncodingLemmas.{IsClauseOf-zip, made_is, made_of}
-
--- a solvable that forbids itself: one literal stands for both atoms
-forbids_itself : {N S : Type 0} (u : Universe N S) (origins : List (Origin N S)) (ls : List Literal) (by : By S) (v : VersionSetId) (s : S) →
-    by ≡ BySolvable s → AllZip (IsAtom origins) ls (made_of u None (Constrains by v s)) → IsClauseOf u origins ls (Constrains by v s)
-forbids_itself u origins ls by v s same zip = record {
-  atoms = AreAtoms-twice origins ls (atom (origin_by by) false) (atom (Solvable s) false) (λ i. atom (origin_by (same i)) false) zip;
-  in_order = tt;
-}
-
-pub clause_made : {N S : Type 0} (u : Universe N S) (origins : List (Origin N S)) (ls : List Literal) (kind : ClauseKind N S)
-    (second : Option (Origin N S × Bool)) → IsSecond kind second → AllZip (IsAtom origins) ls (made_of u second kind) → IsClauseOf u origins ls kind
-clause_made {N} {S} u origins ls kind second (second_is is) zip =
-    let Zip : List (Atom N S) → Type 0 = λ atoms. AllZip (IsAtom origins) ls atoms in
-    IsClauseOf-zip u origins ls kind (subst Zip (ap (λ o. made_of u o kind) is ∙ made_is u kind) zip)
-clause_made {N} {S} u origins ls kind second (second_again by v s constrains same none) zip =
-    let Zip : Option (Origin N S × Bool) → ClauseKind N S → Type 0 = λ o k. AllZip (IsAtom origins) ls (made_of u o k) in
-    let Clause : ClauseKind N S → Type 0 = λ k. IsClauseOf u origins ls k in
-    subst Clause (sym constrains)
-    (forbids_itself u origins ls by v s same (subst (λ k. Zip None k) constrains (subst (λ o. Zip o kind) none zip)))
-
-pub IsSecond-beside : {N S : Type 0} (by : By S) (v : VersionSetId) (s : S) (second : Option (Origin N S × Bool)) → IsBeside by s second →
-    IsSecond (Constrains by v s) second
-IsSecond-beside by v s second (beside_it is) = second_is is
-IsSecond-beside by v s second (is_itself same none) = second_again by v s refl same none
+use Rattle.resolver_encoding.specs.Tables.{HasAdded, Table}
+use Rattle.resolver_encoding.specs.Values.{IsClauseOf}
 
 -- the table has one more clause, after variables were added
 pub kind_added : {N S : Type 0} (u : Universe N S) (kind : ClauseKind N S) (old mid new : Table N S) (literals : List Literal) →

@@ -9,7 +9,7 @@ use Rattle.std.proofs.Math.Seq.{take-append_seam}
 use Rattle.resolver_clause_store.specs.TrailView.{KeepsPlaces, slot_of, variable_at, variable_count, length_of}
 use Rattle.resolver_clause_store.specs.Variables.{AreDistinct, Keeps}
 use Rattle.resolver_clause_store.specs.declared.Origin.{Origin}
-use Rattle.resolver_clause_store.specs.declared.Origin.TheVariants.{Root, Solvable, Bit, Gate, ConstraintHelper, ConditionHelper}
+use Rattle.resolver_clause_store.specs.declared.Origin.TheVariants.{Root, Solvable, Helper}
 use Rattle.resolver_clause_store.specs.declared.Slot.{Slot}
 use Rattle.resolver_clause_store.specs.declared.Trail.{Trail}
 use Rattle.resolver_clause_store.proofs.SlotLemmas.{slot-within}
@@ -27,10 +27,7 @@ found_some : {N S : Type 0} (origins : List (Origin N S)) (x : ℕ) (s : S) → 
 found_some [] x s e = absurd cc
 found_some (Solvable t ∷ os) zero s e = ap (λ y. y ∷ []) (same_Some t s e)
 found_some (Root ∷ os) zero s e = absurd cc
-found_some (Bit n i ∷ os) zero s e = absurd cc
-found_some (Gate r ∷ os) zero s e = absurd cc
-found_some (ConstraintHelper v ∷ os) zero s e = absurd cc
-found_some (ConditionHelper v ∷ os) zero s e = absurd cc
+found_some (Helper h ∷ os) zero s e = absurd cc
 found_some (o ∷ os) (suc x) s e = found_some os x s e
 
 found_none : {N S : Type 0} (origins : List (Origin N S)) (x : ℕ) (b : Bool) → solvable_found (slice_get origins x) ≡ None →
@@ -38,10 +35,7 @@ found_none : {N S : Type 0} (origins : List (Origin N S)) (x : ℕ) (b : Bool) �
 found_none [] x b e = refl
 found_none (Solvable t ∷ os) zero b e = absurd cc
 found_none (Root ∷ os) zero b e = refl
-found_none (Bit n i ∷ os) zero b e = refl
-found_none (Gate r ∷ os) zero b e = refl
-found_none (ConstraintHelper v ∷ os) zero b e = refl
-found_none (ConditionHelper v ∷ os) zero b e = refl
+found_none (Helper h ∷ os) zero b e = refl
 found_none (o ∷ os) (suc x) b e = found_none os x b e
 
 -- the solvable that a true variable stands for
@@ -53,10 +47,7 @@ found_at origins x b (Some s) on e = sym (ap (solvable_if (origin_at origins x))
 false_if : {N S : Type 0} (o : Origin N S) → solvable_if o false ≡ []
 false_if Root = refl
 false_if (Solvable s) = refl
-false_if (Bit n i) = refl
-false_if (Gate r) = refl
-false_if (ConstraintHelper v) = refl
-false_if (ConditionHelper v) = refl
+false_if (Helper h) = refl
 
 pub none_at : {N S : Type 0} (o : Origin N S) (b : Bool) → b ≡ false → [] ≡ solvable_if o b
 none_at o b e = sym (ap (solvable_if o) e ∙ false_if o)

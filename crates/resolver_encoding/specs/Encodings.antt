@@ -1,5 +1,5 @@
 -- The notes of an encoding, the invariant that they keep, and the steps that change them.
-use Rattle.std.specs.Prelude.{ℕ, ◌≡◌, ◌≢◌, ◌⊎◌, ◌≤◌, ◌^◌, Bool, List, map, Option, Some, None, [], ◌∷◌, ◌++◌, Contains, All, length, slice_get, ⊤}
+use Rattle.std.specs.Prelude.{ℕ, ◌≡◌, ◌≢◌, ◌⊎◌, ◌≤◌, ◌^◌, Bool, List, map, Option, Some, None, [], ◌∷◌, ◌++◌, Contains, All, length, slice_get, true, ⊤}
 use Rattle.std.specs.List.{AllZip}
 use Rattle.resolver_clause_store.specs.Lists.{HaveSameMembers, IsWithin}
 use Rattle.resolver_clause_store.specs.Universe.{Universe, Demands, Needs, known, unknown}
@@ -10,22 +10,22 @@ use Rattle.resolver_clause_store.specs.declared.ConditionId.{ConditionId}
 use Rattle.resolver_clause_store.specs.declared.By.{By}
 use Rattle.resolver_clause_store.specs.declared.By.TheVariants.{Solvable as BySolvable}
 use Rattle.resolver_clause_store.specs.declared.ClauseKind.{ClauseKind}
-use Rattle.resolver_clause_store.specs.declared.ClauseKind.TheVariants.{InstallRoot, Requires, AnyOf, GateRequires, Constrains, ConstrainsExcluded}
-use Rattle.resolver_clause_store.specs.declared.ClauseKind.TheVariants.{ConstrainsParent, HasBit, Lock, Excluded}
+use Rattle.resolver_clause_store.specs.declared.ClauseKind.TheVariants.{InstallRoot, Requires, Implies as ImpliesKind, Lock, Excluded}
 use Rattle.resolver_clause_store.specs.declared.ConditionalRequirement.{ConditionalRequirement}
 use Rattle.resolver_clause_store.specs.Literals.{Literal}
 use Rattle.resolver_clause_store.specs.declared.Origin.{Origin}
-use Rattle.resolver_clause_store.specs.declared.Origin.TheVariants.{Root, Solvable, Bit, Gate, ConstraintHelper, ConditionHelper}
+use Rattle.resolver_clause_store.specs.declared.Origin.TheVariants.{Root, Solvable}
+use Rattle.resolver_clause_store.specs.declared.Helper.TheVariants.{Bit, Constraint, Condition}
 use Rattle.resolver_clause_store.specs.declared.Requirement.{Requirement}
 use Rattle.resolver_clause_store.specs.declared.StringId.{StringId}
 use Rattle.resolver_clause_store.specs.declared.VersionSetId.{VersionSetId}
 use Rattle.resolver_clause_store.specs.Statements.{AllMeet}
 use Rattle.resolver_clause_store.specs.TrueRules.{demands_by, Implies}
-use Rattle.resolver_encoding.specs.Atoms.{Atom}
+use Rattle.resolver_encoding.specs.Atoms.{Atom, Disjunct}
 use Rattle.resolver_encoding.specs.Called.{Call, to_ask, to_see}
 use Rattle.resolver_encoding.specs.Groups.{AreGroups, IsAt, IsInGroup}
 use Rattle.resolver_encoding.specs.Codes.{bit}
-use Rattle.resolver_encoding.specs.Read.{IsForbidden}
+use Rattle.resolver_encoding.specs.Read.{HasGate, IsForbidden}
 use Rattle.resolver_encoding.specs.ReadState.{Deferred, HasClause, IsReadRequirement}
 use Rattle.resolver_encoding.specs.Truth.{AreCodes, AreDue, IsTrueClause}
 use Rattle.resolver_encoding.specs.Values.{AreEncoded, IsAtom, IsClauseOf}
@@ -71,26 +71,7 @@ pub record IsTrueEntry {N S : Type 0} (u : Universe N S) (root : Demands) (e : D
 
 -- the clause is a requirement clause
 abbrev pub IsRequirementKind : {N S : Type 0} → ClauseKind N S → Type 0
-IsRequirementKind {N} {S} kind = ((by : By S) × (disjunct : List VersionSetId) × (r : Requirement) × (kind ≡ Requires by disjunct r)) ⊎
-    ((r : Requirement) × (kind ≡ GateRequires r))
-
--- if the clause defines a helper by `AnyOf`, that is a gate or a condition helper
-abbrev pub HasProperHelper : {N S : Type 0} → ClauseKind N S → Type 0
-HasProperHelper (AnyOf (ConditionHelper v) s) = ⊤
-HasProperHelper (AnyOf (Gate r) s) = ⊤
-HasProperHelper (AnyOf Root s) = ⊥
-HasProperHelper (AnyOf (Solvable t) s) = ⊥
-HasProperHelper (AnyOf (Bit n i) s) = ⊥
-HasProperHelper (AnyOf (ConstraintHelper v) s) = ⊥
-HasProperHelper InstallRoot = ⊤
-HasProperHelper (Requires by disjunct r) = ⊤
-HasProperHelper (Constrains by v s) = ⊤
-HasProperHelper (GateRequires r) = ⊤
-HasProperHelper (ConstrainsExcluded s v) = ⊤
-HasProperHelper (ConstrainsParent by v) = ⊤
-HasProperHelper (HasBit n s i b) = ⊤
-HasProperHelper (Lock s t) = ⊤
-HasProperHelper (Excluded s reason) = ⊤
+IsRequirementKind {N} {S} kind = (parent : Option (By S)) × (disjunct : Disjunct) × (r : Requirement) × (kind ≡ Requires parent disjunct r)
 
 -- a solvable that is getting the clauses of its code: it will have this number under its name
 pub record Coding (N S : Type 0) : Type 0 where
@@ -126,29 +107,25 @@ pub record IsEncodingWhile {N S : Type 0} (u : Universe N S) (doing : Doing N S)
   pub codes : N → ℕ → S → Bool
   pub own_codes : AreCodes u codes
   pub each_true : All (IsTrueClause u codes root) notes.kinds
-  pub each_proper : All HasProperHelper notes.kinds
   pub due : AreDue u (doing.asking ++ notes.asked) notes.exempt notes.kinds
   pub installs : Contains notes.kinds InstallRoot
   -- the listed numbers are exactly those of the requirement clauses
   pub listed : (n : ℕ) (kind : ClauseKind N S) → slice_get notes.kinds n ≡ Some kind → IsRequirementKind kind → Contains notes.requirements n
   pub ask : (n : ℕ) → Contains notes.requirements n → (kind : ClauseKind N S) × (slice_get notes.kinds n ≡ Some kind) × IsRequirementKind kind
-  -- for each requirement that has a clause of its own
-  pub helpers : (by : By S) (disjunct : List VersionSetId) (r : Requirement) → Contains notes.kinds (Requires by disjunct r) → (v : VersionSetId) →
-      Contains disjunct v → Contains notes.helped v
-  pub packages : (by : By S) (disjunct : List VersionSetId) (r : Requirement) → Contains notes.kinds (Requires by disjunct r) → (v : VersionSetId) →
+  -- for each requirement clause
+  pub helpers : (parent : Option (By S)) (disjunct : Disjunct) (r : Requirement) → Contains notes.kinds (Requires parent disjunct r) → (v : VersionSetId) →
+      Contains disjunct.items v → Contains notes.helped v
+  pub packages : (parent : Option (By S)) (disjunct : Disjunct) (r : Requirement) → Contains notes.kinds (Requires parent disjunct r) → (v : VersionSetId) →
       Contains (version_sets u r) v → Contains notes.asked (u.version_set_name v)
-  pub candidates : (by : By S) (disjunct : List VersionSetId) (r : Requirement) → Contains notes.kinds (Requires by disjunct r) → (s : S) →
+  pub candidates : (parent : Option (By S)) (disjunct : Disjunct) (r : Requirement) → Contains notes.kinds (Requires parent disjunct r) → (s : S) →
       Contains (requirement_candidates u r) s → Contains notes.seen s
-  pub once : (by : By S) (disjunct : List VersionSetId) (r : Requirement) → Contains notes.kinds (Requires by disjunct r) → AreDistinct disjunct
+  pub once : (parent : Option (By S)) (disjunct : Disjunct) (r : Requirement) → Contains notes.kinds (Requires parent disjunct r) → AreDistinct disjunct.items
   -- for each gate
-  pub gate_packages : (r : Requirement) → Contains notes.kinds (GateRequires r) → (v : VersionSetId) → Contains (version_sets u r) v →
-      Contains notes.asked (u.version_set_name v)
-  pub gate_candidates : (r : Requirement) → Contains notes.kinds (GateRequires r) → (s : S) → Contains (requirement_candidates u r) s → Contains notes.seen s
-  pub gated : (r : Requirement) → Contains notes.gates r → Contains notes.kinds (GateRequires r)
+  pub gated : (r : Requirement) → Contains notes.gates r → HasGate notes.kinds r
   -- for each version set of a constraint that has a helper
-  pub excluded : (v : VersionSetId) → Contains notes.constrained v → (s : S) → Contains (others u v) s → Contains notes.kinds (ConstrainsExcluded s v)
+  pub excluded : (v : VersionSetId) → Contains notes.constrained v → (s : S) → Contains (others u v) s → Contains notes.kinds (ImpliesKind s (Constraint v) true)
   -- for each version set of a condition that has a helper
-  pub follow : (v : VersionSetId) → Contains notes.helped v → (s : S) → Contains (matching u v) s → Contains notes.kinds (AnyOf (ConditionHelper v) s)
+  pub follow : (v : VersionSetId) → Contains notes.helped v → (s : S) → Contains (matching u v) s → Contains notes.kinds (ImpliesKind s (Condition v) true)
   -- for each package that was asked
   pub locks : (s t : S) → Contains notes.asked (u.name s) → (Contains (doing.owing ++ notes.exempt) s → ⊥) → (u.package_named (u.name s)).locked ≡ Some t →
       Contains (u.package_named (u.name s)).listed s → s ≢ t → Contains notes.kinds (Lock t s)
@@ -160,10 +137,10 @@ pub record IsEncodingWhile {N S : Type 0} (u : Universe N S) (doing : Doing N S)
   -- name has
   pub placed : (n : N) (k : ℕ) (s : S) → IsAt notes.groups n k s → (i : ℕ) → codes n i s ≡ bit k i
   pub coding : (c : Coding N S) → Contains doing.coding c → (i : ℕ) → codes c.name i c.instance ≡ bit c.number i
-  pub coded : (n : N) (s : S) (i : ℕ) (b : Bool) → Contains notes.kinds (HasBit n s i b) → Contains notes.seen s ⊎
+  pub coded : (n : N) (s : S) (i : ℕ) (b : Bool) → Contains notes.kinds (ImpliesKind s (Bit n i) b) → Contains notes.seen s ⊎
       Contains (map (λ (c : Coding N S). c.instance) doing.coding) s
   pub digits : (n : N) (j k : ℕ) (s t : S) → IsAt notes.groups n j s → IsAt notes.groups n k t → (i : ℕ) → 2 ^ i ≤ k →
-      Contains notes.kinds (HasBit n s i (bit j i))
+      Contains notes.kinds (ImpliesKind s (Bit n i) (bit j i))
   -- each registered solvable is in the group of its name, and no other solvable is in a group
   pub sound_groups : AreGroups notes.groups
   pub grouped : (s : S) → Contains notes.seen s → IsInGroup notes.groups (u.name s) s
@@ -287,8 +264,7 @@ pub record Grows {N S : Type 0} (old new : List (Origin N S)) : Type 0 where
 
 -- the numbers of the requirement clauses, after one more clause was added
 abbrev pub numbers_with : {N S : Type 0} → ClauseKind N S → ℕ → List ℕ → List ℕ
-numbers_with (Requires by disjunct r) number numbers = numbers ++ number ∷ []
-numbers_with (GateRequires r) number numbers = numbers ++ number ∷ []
+numbers_with (Requires parent disjunct r) number numbers = numbers ++ number ∷ []
 numbers_with kind number numbers = numbers
 
 -- one more clause was added, with the literals of its kind

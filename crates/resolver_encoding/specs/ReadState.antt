@@ -1,5 +1,5 @@
 -- The state of an encoding that has read some solvables and asked some packages.
-use Rattle.std.specs.Prelude.{◌≡◌, ◌≢◌, ◌⊎◌, List, [], Some, Contains, map}
+use Rattle.std.specs.Prelude.{◌≡◌, ◌≢◌, ◌⊎◌, List, [], Option, Some, Contains, map, true}
 use Rattle.resolver_clause_store.specs.Universe.{Universe, Demands, unknown}
 use Rattle.resolver_clause_store.specs.Candidates.{matching, others, requirement_candidates, version_sets}
 use Rattle.resolver_clause_store.specs.Conditions.{IsActive}
@@ -11,10 +11,11 @@ use Rattle.resolver_clause_store.specs.declared.By.{By}
 use Rattle.resolver_clause_store.specs.declared.By.TheVariants.{Solvable as BySolvable}
 use Rattle.resolver_clause_store.specs.Statements.{IsPresent, AllMeet}
 use Rattle.resolver_clause_store.specs.TrueRules.{demands_by}
-use Rattle.resolver_clause_store.specs.declared.Origin.TheVariants.{Gate, ConditionHelper}
+use Rattle.resolver_clause_store.specs.declared.Helper.TheVariants.{Gate, Condition}
 use Rattle.resolver_clause_store.specs.declared.ClauseKind.{ClauseKind}
-use Rattle.resolver_clause_store.specs.declared.ClauseKind.TheVariants.{InstallRoot, Requires, AnyOf, GateRequires, Lock, Excluded}
-use Rattle.resolver_encoding.specs.Read.{IsForbidden, AreApart}
+use Rattle.resolver_clause_store.specs.declared.ClauseKind.TheVariants.{InstallRoot, Requires, Implies, Lock, Excluded}
+use Rattle.resolver_encoding.specs.Atoms.{Disjunct}
+use Rattle.resolver_encoding.specs.Read.{AreApart, HasGate, IsForbidden}
 
 -- a disjunct of a requirement's condition that has not been met yet
 pub record Deferred (S : Type 0) : Type 0 where
@@ -24,8 +25,8 @@ pub record Deferred (S : Type 0) : Type 0 where
 
 -- the clauses of a requirement under a disjunct
 pub data HasClause {N S : Type 0} (kinds : List (ClauseKind N S)) (by : By S) (list : List VersionSetId) (r : Requirement) : Type 0 where
-  has_direct : (disjunct : List VersionSetId) → disjunct ≡ list → Contains kinds (Requires by disjunct r) → HasClause kinds by list r
-  has_gate : (s : S) → by ≡ BySolvable s → list ≡ [] → Contains kinds (AnyOf (Gate r) s) → Contains kinds (GateRequires r) → HasClause kinds by list r
+  has_direct : (disjunct : Disjunct) → disjunct.items ≡ list → Contains kinds (Requires (Some by) disjunct r) → HasClause kinds by list r
+  has_gate : (s : S) → by ≡ BySolvable s → list ≡ [] → Contains kinds (Implies s (Gate r) true) → HasGate kinds r → HasClause kinds by list r
 
 -- each disjunct of a requirement's condition has its clauses or is deferred
 pub record IsReadRequirement {N S : Type 0} (u : Universe N S) (kinds : List (ClauseKind N S)) (IsLeft : Deferred S → Type 0) (by : By S)
@@ -46,9 +47,8 @@ pub record IsRead {N S : Type 0} (u : Universe N S) (root : Demands) (kinds : Li
       IsForbidden kinds by v s
   pub unknowns : (s : S) (reason : StringId) → Contains read s → u.needs s ≡ unknown reason → Contains kinds (Excluded s reason)
   -- for each requirement that has its clauses
-  pub helpers : (by : By S) (disjunct : List VersionSetId) (r : Requirement) → Contains kinds (Requires by disjunct r) → (v : VersionSetId) →
-      Contains disjunct v →
-      (s : S) → Contains (matching u v) s → Contains kinds (AnyOf (ConditionHelper v) s)
+  pub helpers : (parent : Option (By S)) (disjunct : Disjunct) (r : Requirement) → Contains kinds (Requires parent disjunct r) → (v : VersionSetId) →
+      Contains disjunct.items v → (s : S) → Contains (matching u v) s → Contains kinds (Implies s (Condition v) true)
   pub packages : (by : By S) (list : List VersionSetId) (r : Requirement) → HasClause kinds by list r → (v : VersionSetId) → Contains (version_sets u r) v →
       Contains asked (u.version_set_name v)
   pub candidates : (by : By S) (list : List VersionSetId) (r : Requirement) → HasClause kinds by list r → (s : S) → Contains (requirement_candidates u r) s →

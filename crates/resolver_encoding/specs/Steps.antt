@@ -10,7 +10,8 @@ use Rattle.resolver_clause_store.specs.Valid.{demands_of}
 use Rattle.resolver_clause_store.specs.declared.By.{By}
 use Rattle.resolver_clause_store.specs.declared.By.TheVariants.{Solvable as BySolvable}
 use Rattle.resolver_clause_store.specs.declared.ClauseKind.{ClauseKind}
-use Rattle.resolver_clause_store.specs.declared.ClauseKind.TheVariants.{HasBit, Lock}
+use Rattle.resolver_clause_store.specs.declared.ClauseKind.TheVariants.{Implies, Lock}
+use Rattle.resolver_clause_store.specs.declared.Helper.TheVariants.{Bit}
 use Rattle.resolver_clause_store.specs.declared.ConditionalRequirement.{ConditionalRequirement}
 use Rattle.resolver_clause_store.specs.declared.Requirement.{Requirement}
 use Rattle.resolver_clause_store.specs.declared.VersionSetId.{VersionSetId}
@@ -42,7 +43,7 @@ HasLock {N} {S} s listed locked old new = (t : S) → locked ≡ Some t → Cont
 -- if the number is the first one that has a digit, that digit has its clauses for the earlier numbers under the name
 abbrev pub HasBegun : {N S : Type 0} → N → ℕ → Notes N S → Notes N S → Type 0
 HasBegun {N} {S} n number old new = (i : ℕ) → number ≡ 2 ^ i → AreGroups old.groups → (k : ℕ) (t : S) → IsAt old.groups n k t →
-    Contains new.kinds (HasBit n t i (bit k i))
+    Contains new.kinds (Implies t (Bit n i) (bit k i))
 
 module _ {N S : Type 0} (u : Universe N S) where
   -- a step while any work is in progress that is asking the package, if it was not asked yet

@@ -1,17 +1,11 @@
 -- Tables of clauses, and the step that adds a clause.
-use Rattle.std.specs.Prelude.{ℕ, ◌≡◌, ◌⊎◌, Bool, false, List, [], ◌∷◌, ◌++◌, Option, Some, None, length}
+use Rattle.std.specs.Prelude.{ℕ, ◌≡◌, ◌⊎◌, List, [], ◌∷◌, ◌++◌, Option, Some, None, length}
 use Rattle.resolver_clause_store.specs.Universe.{Universe}
 use Rattle.resolver_clause_store.specs.Variables.{AreDistinct}
-use Rattle.resolver_clause_store.specs.declared.By.{By}
-use Rattle.resolver_clause_store.specs.declared.By.TheVariants.{Solvable as BySolvable}
 use Rattle.resolver_clause_store.specs.declared.ClauseKind.{ClauseKind}
-use Rattle.resolver_clause_store.specs.declared.ClauseKind.TheVariants.{Constrains}
 use Rattle.resolver_clause_store.specs.Literals.{Literal}
 use Rattle.resolver_clause_store.specs.declared.Origin.{Origin}
-use Rattle.resolver_clause_store.specs.declared.Origin.TheVariants.{Solvable}
 use Rattle.resolver_clause_store.specs.declared.RequirementClause.{RequirementClause}
-use Rattle.resolver_clause_store.specs.declared.VersionSetId.{VersionSetId}
-use Rattle.resolver_encoding.specs.Atoms.{second_atom}
 use Rattle.resolver_encoding.specs.Encodings.{Grows, numbers_with}
 use Rattle.resolver_encoding.specs.Values.{IsClauseOf}
 
@@ -24,16 +18,6 @@ pub record Table (N S : Type 0) : Type 0 where
   pub requirements : List ℕ
   pub variable_limit : ℕ
   pub clause_limit : ℕ
-
--- the second atom is that of the candidate, or there is none if the candidate is the parent
-pub data IsBeside {N S : Type 0} (by : By S) (s : S) (second : Option (Origin N S × Bool)) : Type 0 where
-  beside_it : second ≡ Some (Solvable s, false) → IsBeside by s second
-  is_itself : by ≡ BySolvable s → second ≡ None → IsBeside by s second
-
--- the second atom, which is left out if a solvable forbids itself, since it would equal the first atom
-pub data IsSecond {N S : Type 0} (kind : ClauseKind N S) (second : Option (Origin N S × Bool)) : Type 0 where
-  second_is : second ≡ second_atom kind → IsSecond kind second
-  second_again : (by : By S) (v : VersionSetId) (s : S) → kind ≡ Constrains by v s → by ≡ BySolvable s → second ≡ None → IsSecond kind second
 
 -- the numbers of the requirement clauses, with the number of the new clause if it is one
 abbrev pub with_number : List ℕ → Option RequirementClause → List ℕ

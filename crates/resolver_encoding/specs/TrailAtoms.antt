@@ -1,18 +1,18 @@
 -- A trail as a list of atoms, the latest first, and the reason of each atom.
-use Rattle.std.specs.Prelude.{◌≡◌, ◌⊎◌, Bool, true, false, not, List, [], ◌∷◌, ◌++◌, Contains, All}
+use Rattle.std.specs.Prelude.{◌≡◌, ◌⊎◌, Bool, true, false, not, List, [], ◌∷◌, ◌++◌, Option, Contains, All}
 use Rattle.resolver_clause_store.specs.Universe.{Universe, Demands}
 use Rattle.resolver_clause_store.specs.Candidates.{requirement_candidates}
 use Rattle.resolver_clause_store.specs.Lists.{IsWithin}
 use Rattle.resolver_clause_store.specs.Reached.{IsReached, AllReached}
 use Rattle.resolver_clause_store.specs.Valid.{IsValid}
 use Rattle.resolver_clause_store.specs.declared.Requirement.{Requirement}
-use Rattle.resolver_clause_store.specs.declared.VersionSetId.{VersionSetId}
 use Rattle.resolver_clause_store.specs.declared.By.{By}
 use Rattle.resolver_clause_store.specs.declared.Origin.{Origin}
-use Rattle.resolver_clause_store.specs.declared.Origin.TheVariants.{Solvable, Gate, ConditionHelper}
+use Rattle.resolver_clause_store.specs.declared.Origin.TheVariants.{Solvable, Helper}
+use Rattle.resolver_clause_store.specs.declared.Helper.TheVariants.{Condition}
 use Rattle.resolver_clause_store.specs.declared.ClauseKind.{ClauseKind}
-use Rattle.resolver_clause_store.specs.declared.ClauseKind.TheVariants.{Requires, GateRequires}
-use Rattle.resolver_encoding.specs.Atoms.{Atom, atom, origin_by, atoms_of, is_satisfied}
+use Rattle.resolver_clause_store.specs.declared.ClauseKind.TheVariants.{Requires}
+use Rattle.resolver_encoding.specs.Atoms.{Atom, Disjunct, atom, atoms_of, is_satisfied, parent_of}
 use Rattle.resolver_encoding.specs.Read.{CoversChosen}
 
 -- the clause is true under all values that satisfy the clauses of the encoding
@@ -31,12 +31,9 @@ pub record IsFirstOpen {N S : Type 0} (u : Universe N S) (earlier : List (Atom N
 pub data IsBecause {N S : Type 0} (u : Universe N S) (kinds : List (ClauseKind N S)) (seeds refused : List S) (earlier : List (Atom N S)) : Atom N S →
     Type 0 where
   -- a candidate of an active requirement
-  needed : (by : By S) (disjunct : List VersionSetId) (r : Requirement) (s : S) → Contains kinds (Requires by disjunct r) →
-      Contains earlier (atom (origin_by by) true) →
-      All (λ v. Contains earlier (atom (ConditionHelper v) true)) disjunct → IsFirstOpen u earlier r s →
-      IsBecause u kinds seeds refused earlier (atom (Solvable s) true)
-  -- a candidate of a gate's requirement
-  needed_gate : (r : Requirement) (s : S) → Contains kinds (GateRequires r) → Contains earlier (atom (Gate r) true) → IsFirstOpen u earlier r s →
+  needed : (parent : Option (By S)) (disjunct : Disjunct) (r : Requirement) (s : S) → Contains kinds (Requires parent disjunct r) →
+      Contains earlier (atom (parent_of parent r) true) →
+      All (λ v. Contains earlier (atom (Helper (Condition v)) true)) disjunct.items → IsFirstOpen u earlier r s →
       IsBecause u kinds seeds refused earlier (atom (Solvable s) true)
   -- a soft requirement, accepted or refused
   seeded : (s : S) → Contains seeds s → IsBecause u kinds seeds refused earlier (atom (Solvable s) true)

@@ -5,9 +5,10 @@ use Rattle.std.specs.Option.{option_map_or}
 use Rattle.resolver_clause_store.specs.Formula.{clause_at}
 use Rattle.resolver_clause_store.specs.Universe.{Universe}
 use Rattle.resolver_clause_store.specs.Literals.{Literal}
+use Rattle.resolver_clause_store.specs.declared.Helper.{Helper as HelperOf}
 use Rattle.resolver_clause_store.specs.declared.Origin.{Origin}
 use Rattle.resolver_clause_store.specs.declared.ClauseKind.{ClauseKind}
-use Rattle.resolver_clause_store.specs.declared.ClauseKind.TheVariants.{InstallRoot, Requires, GateRequires}
+use Rattle.resolver_clause_store.specs.declared.ClauseKind.TheVariants.{InstallRoot, Requires}
 use Rattle.resolver_encoding.specs.Atoms.{Atom, is_on, atoms_of}
 
 -- the literal has this atom
@@ -22,8 +23,7 @@ pub record AreAtoms {N S : Type 0} (origins : List (Origin N S)) (literals : Lis
 
 -- the literals of a requirement clause are in the order of its atoms
 abbrev pub AreInOrder : {N S : Type 0} → Universe N S → List (Origin N S) → List Literal → ClauseKind N S → Type 0
-AreInOrder u origins literals (Requires by disjunct r) = AllZip (IsAtom origins) literals (atoms_of u (Requires by disjunct r))
-AreInOrder u origins literals (GateRequires r) = AllZip (IsAtom origins) literals (atoms_of u (GateRequires r))
+AreInOrder u origins literals (Requires parent disjunct r) = AllZip (IsAtom origins) literals (atoms_of u (Requires parent disjunct r))
 AreInOrder u origins literals kind = ⊤
 
 -- the literals are those of a clause of this kind
@@ -38,7 +38,7 @@ pub record AreEncoded {N S : Type 0} (u : Universe N S) (origins : List (Origin 
   pub each : (n : ℕ) (kind : ClauseKind N S) → slice_get kinds n ≡ Some kind → IsClauseOf u origins (clause_at table n) kind
 
 -- the value of each variable under a set
-abbrev pub extension : {N S : Type 0} → Universe N S → (Origin N S → S → Bool) → List (Origin N S) → List S → ℕ → Bool
+abbrev pub extension : {N S : Type 0} → Universe N S → (HelperOf N → S → Bool) → List (Origin N S) → List S → ℕ → Bool
 extension u implies origins set variable = option_map_or (is_on u implies set) (slice_get origins variable) false
 
 -- the kinds of the clauses with these numbers

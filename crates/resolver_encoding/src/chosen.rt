@@ -33,13 +33,7 @@ fn as_solvable<N: Drop, S: Drop>(origin: Option<Origin<N, S>>) -> Option<S>
 {
     match origin {
         Some(Origin::Solvable(solvable)) => Some(solvable),
-        Some(
-            Origin::Root
-            | Origin::Bit { .. }
-            | Origin::Gate(_)
-            | Origin::ConstraintHelper(_)
-            | Origin::ConditionHelper(_),
-        ) => None,
+        Some(Origin::Root | Origin::Helper(_)) => None,
         None => None,
     }
 }

@@ -5,18 +5,21 @@ ghost use Rattle.resolver_clause_store.specs.Caches.{IsTrueCache};
 ghost use Rattle.resolver_clause_store.specs.Candidates.{matching, requirement_candidates as candidates_of};
 ghost use Rattle.resolver_clause_store.specs.Interruptions.{IsInterruption};
 ghost use Rattle.resolver_clause_store.specs.Laws.{IsIdentity};
+ghost use Rattle.resolver_clause_store.specs.Universe.{Universe};
 ghost use Rattle.resolver_clause_store.specs.declared.By.TheVariants.{Solvable as BySolvable};
+ghost use Rattle.resolver_clause_store.specs.declared.ClauseKind.TheVariants.{Constrains as ConstrainsKind, Requires as RequiresKind};
 ghost use Rattle.resolver_encoding.specs.Core.{implied_in};
-ghost use Rattle.resolver_encoding.specs.Listing.{AddsRules, StatesRule, HasInstances, ListsInstance, ListsBit, SomeOf, States};
-ghost use Rattle.resolver_encoding.specs.Sources.{HasGroups};
+ghost use Rattle.resolver_encoding.specs.Groups.{AreGroups};
+ghost use Rattle.resolver_encoding.specs.Listing.{AddsRules, HasInstances, ListsBit, SomeOf, States};
 ghost use Rattle.resolver_clause_store.specs.Statements.{constrains, requires};
 ghost use Rattle.resolver_encoding.specs.Truth.{AreListed, AreStated};
 ghost use Rattle.resolver_encoding.specs.Values.{kinds_at};
 
+use crate::groups::Groups;
 use crate::listing::Listing;
-use crate::sources::{Sources, sources_of};
+use crate::sources::sources_of;
 use resolver_clause_store::{
-    By, Cache, ClauseKind, DependencyProvider, Exhausted, Interrupted, Origin, Requirement, Rule,
+    By, Cache, ClauseKind, DependencyProvider, Exhausted, Helper, Interrupted, Requirement, Rule,
     VersionSetId, requirement_candidates,
 };
 use std::alloc::Global;
@@ -42,29 +45,6 @@ fn matching_lists<D: DependencyProvider>(
     Ok(lists)
 }
 
-/// Adds the requirement that a clause states by itself.
-fn add_requirement<D: DependencyProvider>(
-    provider: &D,
-    cache: &mut Cache<D::NameId, D::SolvableId>,
-    listing: &mut Listing<D::NameId, D::SolvableId>,
-    by: By<D::SolvableId>,
-    requirement: Requirement,
-    disjunct: &[VersionSetId],
-) -> Result<(), Interrupted<D::Cancel>>
-    requires is_true { IsTrueCache (D.universe provider.now) cache.old }
-    requires instances { HasInstances listing.old }
-    ensures is_true { IsTrueCache (D.universe provider.now) cache.new }
-    ensures added { OnOk result (AddsRules (λ st.
-        st ≡ requires by requirement (candidates_of (D.universe provider.now) requirement)
-        (map (matching (D.universe provider.now)) disjunct.now)) listing.old listing.new) }
-    ensures refusal { IfErr result (IsInterruption (D.may_cancel provider.now)) }
-{
-    let candidates = requirement_candidates(cache, provider, requirement)?;
-    let when = matching_lists(listing.allocator(), provider, cache, disjunct)?;
-    listing.require(by, requirement, candidates, when)?;
-    Ok(())
-}
-
 /// Adds a requirement for each of its requirers.
 fn require_each<N: Copy + Eq + Hash + Drop, S: Copy + Eq + Hash + Drop>(
     listing: &mut Listing<N, S>,
@@ -85,25 +65,37 @@ fn require_each<N: Copy + Eq + Hash + Drop, S: Copy + Eq + Hash + Drop>(
     Ok(())
 }
 
-/// Adds the requirement of a gate for each solvable that implies the gate.
-fn add_gate<D: DependencyProvider>(
+/// Adds the requirement that a clause states; that of a gate, for each solvable that implies the gate.
+fn add_requirement<D: DependencyProvider>(
     provider: &D,
     cache: &mut Cache<D::NameId, D::SolvableId>,
+    sources: &Groups<Helper<D::NameId>, D::SolvableId>,
     listing: &mut Listing<D::NameId, D::SolvableId>,
-    requirers: &[D::SolvableId],
+    parent: Option<By<D::SolvableId>>,
+    disjunct: &Vec<VersionSetId>,
     requirement: Requirement,
 ) -> Result<(), Interrupted<D::Cancel>>
     requires is_true { IsTrueCache (D.universe provider.now) cache.old }
+    requires groups { AreGroups sources.now }
     requires instances { HasInstances listing.old }
     ensures is_true { IsTrueCache (D.universe provider.now) cache.new }
-    ensures added { OnOk result (AddsRules
-        (SomeOf requirers.now (λ s st.
-        st ≡ requires (BySolvable s) requirement (candidates_of (D.universe provider.now) requirement) [])) listing.old listing.new) }
+    ensures added { OnOk result (AddsRules (States (D.universe provider.now) sources.now (RequiresKind parent disjunct.now requirement))
+        listing.old listing.new) }
     ensures refusal { IfErr result (IsInterruption (D.may_cancel provider.now)) }
 {
     let candidates = requirement_candidates(cache, provider, requirement)?;
-    require_each(listing, requirers, requirement, &candidates)?;
-    Ok(())
+    match parent {
+        Some(by) => {
+            let when = matching_lists(listing.allocator(), provider, cache, disjunct)?;
+            listing.require(by, requirement, candidates, when)?;
+            Ok(())
+        }
+        None => {
+            let requirers = sources.named(Helper::Gate(requirement));
+            require_each(listing, requirers, requirement, &candidates)?;
+            Ok(())
+        }
+    }
 }
 
 /// Adds a constraint for each of the candidates that it excludes.
@@ -123,68 +115,37 @@ fn constrain_each<N: Copy + Eq + Hash + Drop, S: Copy + Eq + Hash + Drop>(
     Ok(())
 }
 
-/// Adds the rules that a clause states about sets, without the instances of packages.
-fn add_rules<D: DependencyProvider>(
-    provider: &D,
-    cache: &mut Cache<D::NameId, D::SolvableId>,
-    sources: &Sources<D::SolvableId>,
-    listing: &mut Listing<D::NameId, D::SolvableId>,
-    kind: &ClauseKind<D::NameId, D::SolvableId>,
-) -> Result<(), Interrupted<D::Cancel>>
-    requires is_true { IsTrueCache (D.universe provider.now) cache.old }
-    requires groups { HasGroups sources.now }
+/// Adds the constraint that a clause states; that of a helper, for each candidate that implies the helper.
+fn add_constraint<N: Copy + Eq + Hash + Drop, S: Copy + Eq + Hash + Drop>(
+    sources: &Groups<Helper<N>, S>,
+    listing: &mut Listing<N, S>,
+    by: By<S>,
+    version_set: VersionSetId,
+    candidate: Option<S>,
+) -> Result<(), Exhausted>
+    requires names { IsIdentity N.eq }
+    requires groups { AreGroups sources.now }
     requires instances { HasInstances listing.old }
-    ensures is_true { IsTrueCache (D.universe provider.now) cache.new }
-    ensures added { OnOk result (AddsRules (StatesRule (D.universe provider.now) sources.now kind.now) listing.old listing.new) }
-    ensures refusal { IfErr result (IsInterruption (D.may_cancel provider.now)) }
+    ensures added { OnOk result ((u : Universe N S) → AddsRules (States u sources.now (ConstrainsKind by version_set candidate)) listing.old listing.new) }
+    ensures memory { IfErr result (λ e. e ≡ Exhausted.Memory) }
 {
-    match kind {
-        ClauseKind::Requires {
-            parent,
-            disjunct,
-            requirement,
-        } => {
-            let disjunct = disjunct.as_slice();
-            add_requirement(provider, cache, listing, *parent, *requirement, disjunct)?;
+    match candidate {
+        Some(candidate) => {
+            listing.constrain(by, version_set, candidate)?;
             Ok(())
         }
-        ClauseKind::Constrains {
-            parent,
-            version_set,
-            candidate,
-        } => {
-            listing.constrain(*parent, *version_set, *candidate)?;
+        None => {
+            let excluded = sources.named(Helper::Constraint(version_set));
+            constrain_each(listing, by, version_set, excluded)?;
             Ok(())
         }
-        ClauseKind::GateRequires { requirement } => {
-            let requirers = sources.requirers(*requirement);
-            add_gate(provider, cache, listing, requirers, *requirement)?;
-            Ok(())
-        }
-        ClauseKind::ConstrainsParent {
-            parent,
-            version_set,
-        } => {
-            let excluded = sources.excluded(*version_set);
-            constrain_each(listing, *parent, *version_set, excluded)?;
-            Ok(())
-        }
-        ClauseKind::Lock { locked, forbidden } => {
-            listing.lock(*locked, *forbidden)?;
-            Ok(())
-        }
-        ClauseKind::Excluded { solvable, reason } => {
-            listing.exclude(*solvable, *reason)?;
-            Ok(())
-        }
-        _ => Ok(()),
     }
 }
 
 /// Adds the instance of a package that implies a helper, if that is a bit of the package's codes.
 fn list_bit<N: Copy + Eq + Hash + Drop, S: Copy + Eq + Hash + Drop>(
     listing: &mut Listing<N, S>,
-    helper: &Origin<N, S>,
+    helper: &Helper<N>,
     candidate: S,
 ) -> Result<(), Exhausted>
     requires names { IsIdentity N.eq }
@@ -194,32 +155,8 @@ fn list_bit<N: Copy + Eq + Hash + Drop, S: Copy + Eq + Hash + Drop>(
     ensures memory { IfErr result (λ e. e ≡ Exhausted.Memory) }
 {
     match helper {
-        Origin::Bit { name, .. } => {
+        Helper::Bit { name, .. } => {
             listing.list_instance(*name, candidate)?;
-            Ok(())
-        }
-        _ => Ok(()),
-    }
-}
-
-/// Adds the instance of a package that a clause of its codes names.
-fn add_instances<N: Copy + Eq + Hash + Drop, S: Copy + Eq + Hash + Drop>(
-    listing: &mut Listing<N, S>,
-    kind: &ClauseKind<N, S>,
-) -> Result<(), Exhausted>
-    requires names { IsIdentity N.eq }
-    requires solvables { IsIdentity S.eq }
-    requires instances { HasInstances listing.old }
-    ensures added { OnOk result (AddsRules (ListsInstance kind.now) listing.old listing.new) }
-    ensures memory { IfErr result (λ e. e ≡ Exhausted.Memory) }
-{
-    match kind {
-        ClauseKind::AnyOf { helper, candidate } => {
-            list_bit(listing, helper, *candidate)?;
-            Ok(())
-        }
-        ClauseKind::HasBit { name, instance, .. } => {
-            listing.list_instance(*name, *instance)?;
             Ok(())
         }
         _ => Ok(()),
@@ -230,20 +167,60 @@ fn add_instances<N: Copy + Eq + Hash + Drop, S: Copy + Eq + Hash + Drop>(
 fn add_stated<D: DependencyProvider>(
     provider: &D,
     cache: &mut Cache<D::NameId, D::SolvableId>,
-    sources: &Sources<D::SolvableId>,
+    sources: &Groups<Helper<D::NameId>, D::SolvableId>,
     listing: &mut Listing<D::NameId, D::SolvableId>,
     kind: &ClauseKind<D::NameId, D::SolvableId>,
 ) -> Result<(), Interrupted<D::Cancel>>
     requires is_true { IsTrueCache (D.universe provider.now) cache.old }
-    requires groups { HasGroups sources.now }
+    requires groups { AreGroups sources.now }
     requires instances { HasInstances listing.old }
     ensures is_true { IsTrueCache (D.universe provider.now) cache.new }
     ensures added { OnOk result (AddsRules (States (D.universe provider.now) sources.now kind.now) listing.old listing.new) }
     ensures refusal { IfErr result (IsInterruption (D.may_cancel provider.now)) }
 {
-    add_rules(provider, cache, sources, listing, kind)?;
-    add_instances(listing, kind)?;
-    Ok(())
+    match kind {
+        ClauseKind::InstallRoot => Ok(()),
+        ClauseKind::Requires {
+            parent,
+            disjunct,
+            requirement,
+        } => {
+            add_requirement(
+                provider,
+                cache,
+                sources,
+                listing,
+                *parent,
+                disjunct,
+                *requirement,
+            )?;
+            Ok(())
+        }
+        ClauseKind::Implies {
+            candidate,
+            helper,
+            ..
+        } => {
+            list_bit(listing, helper, *candidate)?;
+            Ok(())
+        }
+        ClauseKind::Constrains {
+            parent,
+            version_set,
+            candidate,
+        } => {
+            add_constraint(sources, listing, *parent, *version_set, *candidate)?;
+            Ok(())
+        }
+        ClauseKind::Lock { locked, forbidden } => {
+            listing.lock(*locked, *forbidden)?;
+            Ok(())
+        }
+        ClauseKind::Excluded { solvable, reason } => {
+            listing.exclude(*solvable, *reason)?;
+            Ok(())
+        }
+    }
 }
 
 /// Returns the rules that the clauses with these numbers state, in the order of the numbers.

@@ -1,16 +1,19 @@
 //! The literals of a clause, by its kind.
 
-ghost use Rattle.std.specs.Prelude.{◌≡◌, [], ◌∷◌, IfErr, MatchBool, OnOk, false, map, true};
+ghost use Rattle.std.specs.Prelude.{◌≡◌, [], ◌∷◌, ◌++◌, IfErr, MatchBool, OnOk, false, map, true, ⊤};
 ghost use Rattle.resolver_clause_store.specs.Laws.{IsIdentity};
+ghost use Rattle.resolver_clause_store.specs.Universe.{Universe};
 ghost use Rattle.resolver_clause_store.specs.Variables.{AreFull, limit_in, origins_in};
-ghost use Rattle.resolver_clause_store.specs.declared.Origin.TheVariants.{ConditionHelper, Solvable};
-ghost use Rattle.resolver_clause_store.specs.declared.By.TheVariants.{Solvable as BySolvable};
-ghost use Rattle.resolver_encoding.specs.Atoms.{atom, first_atom, front, helpers_of, origin_by};
+ghost use Rattle.resolver_clause_store.specs.declared.Helper.TheVariants.{Condition};
+ghost use Rattle.resolver_clause_store.specs.declared.Origin.TheVariants.{Helper as HelperOrigin, Solvable};
+ghost use Rattle.resolver_encoding.specs.Atoms.{atom, excluded_of as excluded_origin, origin_by, parent_of as parent_origin, wanted};
 ghost use Rattle.resolver_encoding.specs.Encodings.{Adds, Grows};
 ghost use Rattle.resolver_encoding.specs.Refusals.{IsShortage};
-ghost use Rattle.resolver_encoding.specs.Tables.{IsBeside, IsSecond};
+ghost use Rattle.resolver_encoding.specs.Values.{AreAtoms, IsClauseOf};
 
-use resolver_clause_store::{By, ClauseKind, Exhausted, Literal, Origin, Variables, VersionSetId};
+use resolver_clause_store::{
+    By, ClauseKind, Exhausted, Helper, Literal, Origin, Requirement, Variables, VersionSetId,
+};
 use std::hash::Hash;
 
 /// Returns the origin of the root or of a solvable.
@@ -23,111 +26,24 @@ fn origin_of<N, S: Copy>(by: By<S>) -> Origin<N, S>
     }
 }
 
-/// Returns the origin and the sign of a clause's first literal.
-pub(crate) fn first_of<N: Copy, S: Copy>(kind: &ClauseKind<N, S>) -> (Origin<N, S>, bool)
-    ensures { result ≡ first_atom kind.now }
+/// Returns the origin of who has a requirement: the root, a solvable, or the requirement's gate.
+fn parent_of<N, S: Copy>(parent: Option<By<S>>, requirement: Requirement) -> Origin<N, S>
+    ensures { result ≡ parent_origin parent requirement }
 {
-    match kind {
-        ClauseKind::InstallRoot => (Origin::Root, true),
-        ClauseKind::Requires { parent, .. } => (origin_of(*parent), false),
-        ClauseKind::AnyOf { helper, .. } => (*helper, true),
-        ClauseKind::Constrains { parent, .. } => (origin_of(*parent), false),
-        ClauseKind::GateRequires { requirement } => (Origin::Gate(*requirement), false),
-        ClauseKind::ConstrainsExcluded { candidate, .. } => (Origin::Solvable(*candidate), false),
-        ClauseKind::ConstrainsParent { parent, .. } => (origin_of(*parent), false),
-        ClauseKind::HasBit { instance, .. } => (Origin::Solvable(*instance), false),
-        ClauseKind::Lock { .. } => (Origin::Root, false),
-        ClauseKind::Excluded { solvable, .. } => (Origin::Solvable(*solvable), false),
+    match parent {
+        Some(by) => origin_of(by),
+        None => Origin::Helper(Helper::Gate(requirement)),
     }
 }
 
-/// Returns whether the requirer is this solvable.
-fn is_by<S: Copy + Eq>(by: By<S>, solvable: S) -> bool
-    requires { IsIdentity S.eq }
-    ensures { MatchBool result (by ≡ BySolvable solvable) (by ≡ BySolvable solvable → ⊥) }
+/// Returns the origin of what a constraint excludes: a candidate, or the constraint's helper.
+fn excluded_of<N, S: Copy>(candidate: Option<S>, version_set: VersionSetId) -> Origin<N, S>
+    ensures { result ≡ excluded_origin candidate version_set }
 {
-    match by {
-        By::Root => false,
-        By::Solvable(parent) => parent == solvable,
+    match candidate {
+        Some(solvable) => Origin::Solvable(solvable),
+        None => Origin::Helper(Helper::Constraint(version_set)),
     }
-}
-
-/// Returns the origin and the sign of the candidate's literal in the clause of a constraint, and none if a solvable
-/// excludes itself.
-fn beside<N, S: Copy + Eq>(by: By<S>, candidate: S) -> Option<(Origin<N, S>, bool)>
-    requires { IsIdentity S.eq }
-    ensures { IsBeside by candidate result }
-{
-    if is_by(by, candidate) {
-        return None;
-    }
-    Some((Origin::Solvable(candidate), false))
-}
-
-/// Returns the origin and the sign of a clause's second literal, if that is neither a disjunct's helper nor a listed
-/// candidate.
-pub(crate) fn second_of<N: Copy, S: Copy + Eq>(
-    kind: &ClauseKind<N, S>,
-) -> Option<(Origin<N, S>, bool)>
-    requires { IsIdentity S.eq }
-    ensures { IsSecond kind.now result }
-{
-    match kind {
-        ClauseKind::InstallRoot => None,
-        ClauseKind::Requires { .. } => None,
-        ClauseKind::AnyOf { candidate, .. } => Some((Origin::Solvable(*candidate), false)),
-        ClauseKind::Constrains {
-            parent,
-            candidate,
-            ..
-        } => beside(*parent, *candidate),
-        ClauseKind::GateRequires { .. } => None,
-        ClauseKind::ConstrainsExcluded { version_set, .. } => {
-            Some((Origin::ConstraintHelper(*version_set), true))
-        }
-        ClauseKind::ConstrainsParent { version_set, .. } => {
-            Some((Origin::ConstraintHelper(*version_set), false))
-        }
-        ClauseKind::HasBit {
-            name,
-            index,
-            value,
-            ..
-        } => Some((
-            Origin::Bit {
-                name: *name,
-                index: *index,
-            },
-            *value,
-        )),
-        ClauseKind::Lock { forbidden, .. } => Some((Origin::Solvable(*forbidden), false)),
-        ClauseKind::Excluded { .. } => None,
-    }
-}
-
-/// Returns the version sets whose condition helpers a clause depends on.
-pub(crate) fn depends_on<N, S>(kind: &ClauseKind<N, S>) -> &[VersionSetId]
-    ensures { result.now ≡ helpers_of kind.now }
-{
-    match kind {
-        ClauseKind::Requires { disjunct, .. } => disjunct.as_slice(),
-        _ => &[],
-    }
-}
-
-/// Counts the literals of a clause. The count serves as a capacity, so nothing rests on it.
-pub(crate) fn count_of<N, S>(
-    second: &Option<(Origin<N, S>, bool)>,
-    helpers: &[VersionSetId],
-    candidates: &[S],
-) -> usize {
-    let front: usize = match second {
-        None => 1,
-        Some(_) => 2,
-    };
-    front
-        .saturating_add(helpers.len())
-        .saturating_add(candidates.len())
 }
 
 /// Appends the literal of an origin.
@@ -149,70 +65,126 @@ fn push_literal<N: Copy + Eq + Hash + Drop, S: Copy + Eq + Hash + Drop>(
     Ok(())
 }
 
-/// Appends the one or two literals at the front of a clause.
-pub(crate) fn push_front<N: Copy + Eq + Hash + Drop, S: Copy + Eq + Hash + Drop>(
-    variables: &mut Variables<N, S>,
-    literals: &mut Vec<Literal>,
-    first: (Origin<N, S>, bool),
-    second: Option<(Origin<N, S>, bool)>,
-) -> Result<(), Exhausted>
-    requires names { IsIdentity N.eq }
-    requires solvables { IsIdentity S.eq }
-    ensures limit { limit_in variables.new ≡ limit_in variables.old }
-    ensures grows { Grows (origins_in variables.old) (origins_in variables.new) }
-    ensures added { OnOk result (Adds (origins_in variables.new) literals.old.items literals.new.items (front first second)) }
-    ensures refusal { IfErr result (IsShortage (AreFull variables.new)) }
+/// Returns whether two values are the same.
+fn is_same<T: Eq>(left: &T, right: &T) -> bool
+    requires { IsIdentity T.eq }
+    ensures { MatchBool result (left.now ≡ right.now) ⊤ }
 {
-    push_literal(variables, literals, first.0, first.1)?;
-    match second {
-        None => Ok(()),
-        Some(second) => {
-            push_literal(variables, literals, second.0, second.1)?;
-            Ok(())
-        }
-    }
+    left == right
 }
 
-/// Appends the negated literal of the condition helper of each version set.
-pub(crate) fn push_helpers<N: Copy + Eq + Hash + Drop, S: Copy + Eq + Hash + Drop>(
+/// Appends the negated literals of two origins, one literal if a solvable excludes itself.
+fn push_both<N: Copy + Eq + Hash + Drop, S: Copy + Eq + Hash + Drop>(
     variables: &mut Variables<N, S>,
     literals: &mut Vec<Literal>,
-    disjunct: &[VersionSetId],
+    first: Origin<N, S>,
+    second: Origin<N, S>,
 ) -> Result<(), Exhausted>
     requires names { IsIdentity N.eq }
     requires solvables { IsIdentity S.eq }
+    requires empty { literals.old.items ≡ [] }
     ensures limit { limit_in variables.new ≡ limit_in variables.old }
     ensures grows { Grows (origins_in variables.old) (origins_in variables.new) }
-    ensures added { OnOk result (Adds (origins_in variables.new) literals.old.items literals.new.items
-        (map (λ v. atom (ConditionHelper v) false) disjunct.now)) }
+    ensures atoms { OnOk result (AreAtoms (origins_in variables.new) literals.new.items (atom first false ∷ atom second false ∷ [])) }
     ensures refusal { IfErr result (IsShortage (AreFull variables.new)) }
 {
-    for version_set in disjunct {
-        push_literal(
-            variables,
-            literals,
-            Origin::ConditionHelper(*version_set),
-            false,
-        )?;
+    push_literal(variables, literals, first, false)?;
+    if is_same(&first, &second) {
+        return Ok(());
     }
+    push_literal(variables, literals, second, false)?;
     Ok(())
 }
 
-/// Appends the literal of each candidate.
-pub(crate) fn push_candidates<N: Copy + Eq + Hash + Drop, S: Copy + Eq + Hash + Drop>(
+/// Appends the literals of a requirement clause: of its parent, of the condition helpers of its disjunct, and of the
+/// candidates.
+fn push_requirement<N: Copy + Eq + Hash + Drop, S: Copy + Eq + Hash + Drop>(
     variables: &mut Variables<N, S>,
     literals: &mut Vec<Literal>,
+    parent: Origin<N, S>,
+    disjunct: &[VersionSetId],
     candidates: &[S],
 ) -> Result<(), Exhausted>
     requires names { IsIdentity N.eq }
     requires solvables { IsIdentity S.eq }
     ensures limit { limit_in variables.new ≡ limit_in variables.old }
     ensures grows { Grows (origins_in variables.old) (origins_in variables.new) }
-    ensures added { OnOk result (Adds (origins_in variables.new) literals.old.items literals.new.items (map (λ s. atom (Solvable s) true) candidates.now)) }
+    ensures added { OnOk result (Adds (origins_in variables.new) literals.old.items literals.new.items (atom parent false ∷
+        (map (λ v. atom (HelperOrigin (Condition v)) false) disjunct.now ++ map (λ s. atom (Solvable s) true) candidates.now))) }
     ensures refusal { IfErr result (IsShortage (AreFull variables.new)) }
 {
+    push_literal(variables, literals, parent, false)?;
+    for version_set in disjunct {
+        let helper = Origin::Helper(Helper::Condition(*version_set));
+        push_literal(variables, literals, helper, false)?;
+    }
     for candidate in candidates {
         push_literal(variables, literals, Origin::Solvable(*candidate), true)?;
     }
     Ok(())
+}
+
+/// Appends the literals of a clause to an empty list: those of the atoms of its kind. Those of a requirement clause are
+/// made for the given candidates.
+pub(crate) fn push_atoms<N: Copy + Eq + Hash + Drop, S: Copy + Eq + Hash + Drop>(
+    variables: &mut Variables<N, S>,
+    literals: &mut Vec<Literal>,
+    kind: &ClauseKind<N, S>,
+    candidates: &[S],
+) -> Result<(), Exhausted>
+    requires names { IsIdentity N.eq }
+    requires solvables { IsIdentity S.eq }
+    requires empty { literals.old.items ≡ [] }
+    ensures limit { limit_in variables.new ≡ limit_in variables.old }
+    ensures grows { Grows (origins_in variables.old) (origins_in variables.new) }
+    ensures clause { OnOk result ((u : Universe N S) → candidates.now ≡ wanted u kind.now →
+        IsClauseOf u (origins_in variables.new) literals.new.items kind.now) }
+    ensures refusal { IfErr result (IsShortage (AreFull variables.new)) }
+{
+    match kind {
+        ClauseKind::InstallRoot => {
+            push_literal(variables, literals, Origin::Root, true)?;
+            Ok(())
+        }
+        ClauseKind::Requires {
+            parent,
+            disjunct,
+            requirement,
+        } => {
+            let parent = parent_of(*parent, *requirement);
+            push_requirement(variables, literals, parent, disjunct, candidates)?;
+            Ok(())
+        }
+        ClauseKind::Implies {
+            candidate,
+            helper,
+            value,
+        } => {
+            push_literal(variables, literals, Origin::Solvable(*candidate), false)?;
+            push_literal(variables, literals, Origin::Helper(*helper), *value)?;
+            Ok(())
+        }
+        ClauseKind::Constrains {
+            parent,
+            version_set,
+            candidate,
+        } => {
+            let excluded = excluded_of(*candidate, *version_set);
+            push_both(variables, literals, origin_of(*parent), excluded)?;
+            Ok(())
+        }
+        ClauseKind::Lock { forbidden, .. } => {
+            push_both(
+                variables,
+                literals,
+                Origin::Root,
+                Origin::Solvable(*forbidden),
+            )?;
+            Ok(())
+        }
+        ClauseKind::Excluded { solvable, .. } => {
+            push_literal(variables, literals, Origin::Solvable(*solvable), false)?;
+            Ok(())
+        }
+    }
 }

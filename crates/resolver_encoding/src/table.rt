@@ -11,9 +11,7 @@ ghost use Rattle.resolver_encoding.specs.Tables.{HasAdded, IsTableFull, with_num
 ghost use Rattle.resolver_encoding.specs.Values.{IsClauseOf};
 
 use crate::choices::{Choices, places_behind};
-use crate::literals::{
-    count_of, depends_on, first_of, push_candidates, push_front, push_helpers, second_of,
-};
+use crate::literals::push_atoms;
 use resolver_clause_store::{
     By, ClauseKind, Clauses, Exhausted, Literal, RequirementClause, UnionEnds, Variables, narrow,
 };
@@ -46,12 +44,7 @@ fn listing_of<N, S>(
     match kind {
         ClauseKind::Requires { parent, .. } => Some(RequirementClause {
             number,
-            of_root: matches!(parent, By::Root),
-            is_union,
-        }),
-        ClauseKind::GateRequires { .. } => Some(RequirementClause {
-            number,
-            of_root: false,
+            of_root: matches!(parent, Some(By::Root)),
             is_union,
         }),
         _ => None,
@@ -156,13 +149,10 @@ impl<N: Copy + Eq + Hash + Drop, S: Copy + Eq + Hash + Drop> ClauseTable<N, S> {
             IsClauseOf u (table_in self.new).origins literals.new.items kind.now) }
         ensures refusal { IfErr result (IsShortage (AreFull self.new.variables)) }
     {
-        let second = second_of(kind);
-        let helpers = depends_on(kind);
-        literals.reserve_exact(count_of(&second, helpers, &choices.candidates))?;
-        push_front(&mut self.variables, literals, first_of(kind), second)?;
-        push_helpers(&mut self.variables, literals, helpers)?;
-        let ends = places_behind(self.alloc, literals.len(), &choices.counts)?;
-        push_candidates(&mut self.variables, literals, &choices.candidates)?;
+        literals.reserve_exact(choices.candidates.len().saturating_add(2))?;
+        push_atoms(&mut self.variables, literals, kind, &choices.candidates)?;
+        let start = literals.len().saturating_sub(choices.candidates.len());
+        let ends = places_behind(self.alloc, start, &choices.counts)?;
         Ok(ends)
     }
 

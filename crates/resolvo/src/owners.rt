@@ -57,13 +57,7 @@ impl<N: Copy + Eq + Hash + Drop> Owners<N> {
                 let owner = Owner::package(number)?;
                 Ok(owner)
             }
-            Some(
-                Origin::Root
-                | Origin::Bit { .. }
-                | Origin::Gate(_)
-                | Origin::ConstraintHelper(_)
-                | Origin::ConditionHelper(_),
-            ) => Ok(Owner::none()),
+            Some(Origin::Root | Origin::Helper(_)) => Ok(Owner::none()),
             None => Ok(Owner::none()),
         }
     }

@@ -3,7 +3,8 @@
 ghost use Rattle.std.specs.Prelude.{◌≡◌, ◌⊎◌, ◌<◌, ◌≤◌, ◌^◌, ℕ, All, Contains, IfErr, OnOk, ⊤};
 ghost use Rattle.resolver_clause_store.specs.Laws.{IsIdentity};
 ghost use Rattle.resolver_clause_store.specs.Variables.{AreFull, limit_in, origins_in};
-ghost use Rattle.resolver_clause_store.specs.declared.ClauseKind.TheVariants.{HasBit as HasBitKind};
+ghost use Rattle.resolver_clause_store.specs.declared.ClauseKind.TheVariants.{Implies as ImpliesKind};
+ghost use Rattle.resolver_clause_store.specs.declared.Helper.TheVariants.{Bit};
 ghost use Rattle.resolver_clause_store.specs.declared.Origin.TheVariants.{Solvable};
 ghost use Rattle.resolver_encoding.specs.Called.{IsSeeing, IsSeeingEach};
 ghost use Rattle.resolver_encoding.specs.Codes.{bit};
@@ -15,7 +16,8 @@ ghost use Rattle.resolver_encoding.specs.Steps.{CallsOnly, HasBegun};
 use super::Encoding;
 use crate::codes::{digit_count, has_digit, new_digit};
 use resolver_clause_store::{
-    ClauseKind, DependencyProvider, Exhausted, Interner, Origin, Variables, append, is_among,
+    ClauseKind, DependencyProvider, Exhausted, Helper, Interner, Origin, Variables, append,
+    is_among,
 };
 use std::hash::Hash;
 
@@ -62,10 +64,9 @@ impl<N: Copy + Eq + Hash + Drop, S: Copy + Eq + Hash + Drop> Encoding<N, S> {
         };
         let earlier = Vec::from_slice(self.alloc, self.groups.named(name))?;
         for other in &earlier {
-            self.add(ClauseKind::HasBit {
-                name,
-                instance: *other,
-                index,
+            self.add(ClauseKind::Implies {
+                candidate: *other,
+                helper: Helper::Bit { name, index },
                 value: false,
             })?;
         }
@@ -84,17 +85,16 @@ impl<N: Copy + Eq + Hash + Drop, S: Copy + Eq + Hash + Drop> Encoding<N, S> {
         ensures room { KeepsRoom self.old self.new }
         ensures step { OnOk result (IsStepWhile (D.universe provider.now) (coding_for name number solvable) (λ root. ⊤) (notes_in self.old)
             (notes_in self.new)) }
-        ensures code { OnOk result ((i : ℕ) → 2 ^ i ≤ number → Contains (notes_in self.new).kinds (HasBitKind name solvable i (bit number i))) }
+        ensures code { OnOk result ((i : ℕ) → 2 ^ i ≤ number → Contains (notes_in self.new).kinds (ImpliesKind solvable (Bit name i) (bit number i))) }
         ensures groups { OnOk result ((notes_in self.new).groups ≡ (notes_in self.old).groups) }
         ensures requirements { OnOk result ((notes_in self.new).requirements ≡ (notes_in self.old).requirements) }
         ensures refusal { IfErr result (IsShortage (IsFull (notes_in self.new))) }
     {
         for index in 0..digit_count(number) {
             let value = has_digit(number, index);
-            self.add(ClauseKind::HasBit {
-                name,
-                instance: solvable,
-                index,
+            self.add(ClauseKind::Implies {
+                candidate: solvable,
+                helper: Helper::Bit { name, index },
                 value,
             })?;
         }

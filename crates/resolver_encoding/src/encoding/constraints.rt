@@ -1,20 +1,19 @@
 //! Clauses of constraints.
 
-ghost use Rattle.std.specs.Prelude.{◌≡◌, All, Contains, IfErr, IfNone, IfSome, MatchBool, OnOk, ⊤};
+ghost use Rattle.std.specs.Prelude.{◌≡◌, All, Contains, IfErr, IfNone, IfSome, MatchBool, OnOk, Some, ⊤};
 ghost use Rattle.resolver_clause_store.specs.Caches.{IsTrueCache};
 ghost use Rattle.resolver_clause_store.specs.Candidates.{others};
 ghost use Rattle.resolver_clause_store.specs.Laws.{IsIdentity};
 ghost use Rattle.resolver_clause_store.specs.declared.By.TheVariants.{Solvable as BySolvable};
-ghost use Rattle.resolver_clause_store.specs.declared.ClauseKind.TheVariants.{Constrains as ConstrainsKind, ConstrainsExcluded as ExcludedKind};
-ghost use Rattle.resolver_clause_store.specs.declared.ClauseKind.TheVariants.{ConstrainsParent as ParentKind};
+ghost use Rattle.resolver_clause_store.specs.declared.ClauseKind.TheVariants.{Constrains as ConstrainsKind};
 ghost use Rattle.resolver_encoding.specs.Encodings.{HasConstraint, IsConstraintRead, IsEncodingOf, IsFull, IsStep};
 ghost use Rattle.resolver_encoding.specs.Refusals.{IsShortage, IsStop};
 ghost use Rattle.resolver_encoding.specs.Steps.{IsConstraintStep};
 
 use super::Encoding;
 use resolver_clause_store::{
-    By, ClauseKind, DependencyProvider, Exhausted, Interner, Interrupted, VersionSetId, append,
-    is_among,
+    By, ClauseKind, DependencyProvider, Exhausted, Helper, Interner, Interrupted, VersionSetId,
+    append, is_among,
 };
 use std::hash::Hash;
 
@@ -53,16 +52,16 @@ fn own_parent<D: DependencyProvider>(
 impl<N: Copy + Eq + Hash + Drop, S: Copy + Eq + Hash + Drop> Encoding<N, S> {
     ghost use Rattle.resolver_encoding.specs.Notes.{KeepsRoom, KeepsTrue, cache_in, notes_in};
 
-    /// Forbids a candidate together with the requirer of the constraint. If these are the same solvable, it is
-    /// forbidden alone.
+    /// Forbids a candidate, or else the constraint helper, together with the requirer of the constraint. If a candidate
+    /// is the requirer, it is forbidden alone.
     fn constrain<D: DependencyProvider<NameId = N, SolvableId = S>>(
         &mut self,
         provider: &D,
         by: By<S>,
         version_set: VersionSetId,
-        candidate: S,
+        candidate: Option<S>,
     ) -> Result<(), Exhausted>
-        requires other { Contains (others (D.universe provider.now) version_set) candidate }
+        requires other { IfSome candidate (Contains (others (D.universe provider.now) version_set)) }
         ensures room { KeepsRoom self.old self.new }
         ensures step { OnOk result (IsStep (D.universe provider.now) (HasConstraint (D.universe provider.now) by version_set) (notes_in self.old)
             (notes_in self.new)) }
@@ -93,30 +92,7 @@ impl<N: Copy + Eq + Hash + Drop, S: Copy + Eq + Hash + Drop> Encoding<N, S> {
         ensures refusal { IfErr result (IsShortage (IsFull (notes_in self.new))) }
     {
         for candidate in forbidden {
-            self.constrain(provider, by, version_set, *candidate)?;
-        }
-        Ok(())
-    }
-
-    /// Adds the clauses by which each solvable outside a version set implies its constraint helper.
-    fn imply_helper<D: DependencyProvider<NameId = N, SolvableId = S>>(
-        &mut self,
-        provider: &D,
-        version_set: VersionSetId,
-        forbidden: &[S],
-    ) -> Result<(), Exhausted>
-        requires forbidden { forbidden.now ≡ others (D.universe provider.now) version_set }
-        ensures room { KeepsRoom self.old self.new }
-        ensures step { OnOk result (IsStep (D.universe provider.now) (λ root. ⊤) (notes_in self.old) (notes_in self.new)) }
-        ensures excluded { OnOk result (All (λ s. Contains (notes_in self.new).kinds (ExcludedKind s version_set)) forbidden.now) }
-        ensures constrained { OnOk result ((notes_in self.new).constrained ≡ (notes_in self.old).constrained) }
-        ensures refusal { IfErr result (IsShortage (IsFull (notes_in self.new))) }
-    {
-        for candidate in forbidden {
-            self.add(ClauseKind::ConstrainsExcluded {
-                candidate: *candidate,
-                version_set,
-            })?;
+            self.constrain(provider, by, version_set, Some(*candidate))?;
         }
         Ok(())
     }
@@ -137,28 +113,8 @@ impl<N: Copy + Eq + Hash + Drop, S: Copy + Eq + Hash + Drop> Encoding<N, S> {
         if is_among(&self.constrained, &version_set) {
             return Ok(());
         }
-        self.imply_helper(provider, version_set, forbidden)?;
+        self.imply_each(provider, Helper::Constraint(version_set), forbidden)?;
         append(&mut self.constrained, version_set)?;
-        Ok(())
-    }
-
-    /// Forbids the constraint helper of a version set together with the requirer of the constraint.
-    fn forbid_helper<D: DependencyProvider<NameId = N, SolvableId = S>>(
-        &mut self,
-        provider: &D,
-        by: By<S>,
-        version_set: VersionSetId,
-    ) -> Result<(), Exhausted>
-        ensures room { KeepsRoom self.old self.new }
-        ensures step { OnOk result (IsStep (D.universe provider.now) (HasConstraint (D.universe provider.now) by version_set) (notes_in self.old)
-            (notes_in self.new)) }
-        ensures forbidden { OnOk result (Contains (notes_in self.new).kinds (ParentKind by version_set)) }
-        ensures refusal { IfErr result (IsShortage (IsFull (notes_in self.new))) }
-    {
-        self.add(ClauseKind::ConstrainsParent {
-            parent: by,
-            version_set,
-        })?;
         Ok(())
     }
 
@@ -175,7 +131,7 @@ impl<N: Copy + Eq + Hash + Drop, S: Copy + Eq + Hash + Drop> Encoding<N, S> {
         ensures step { OnOk result (IsStep (D.universe provider.now) (HasConstraint (D.universe provider.now) by version_set) (notes_in self.old)
             (notes_in self.new)) }
         ensures itself { OnOk result ((s : S) → by ≡ BySolvable s → Contains forbidden.now s →
-            Contains (notes_in self.new).kinds (ConstrainsKind by version_set s)) }
+            Contains (notes_in self.new).kinds (ConstrainsKind by version_set (Some s))) }
         ensures refusal { IfErr result (IsShortage (IsFull (notes_in self.new))) }
     {
         match own_parent(provider, by, version_set) {
@@ -184,7 +140,7 @@ impl<N: Copy + Eq + Hash + Drop, S: Copy + Eq + Hash + Drop> Encoding<N, S> {
                 if !is_listed(forbidden, parent) {
                     return Ok(());
                 }
-                self.constrain(provider, by, version_set, parent)?;
+                self.constrain(provider, by, version_set, Some(parent))?;
                 Ok(())
             }
         }
@@ -207,7 +163,7 @@ impl<N: Copy + Eq + Hash + Drop, S: Copy + Eq + Hash + Drop> Encoding<N, S> {
         ensures refusal { IfErr result (IsShortage (IsFull (notes_in self.new))) }
     {
         self.make_helper(provider, version_set, forbidden)?;
-        self.forbid_helper(provider, by, version_set)?;
+        self.constrain(provider, by, version_set, None)?;
         self.forbid_itself(provider, by, version_set, forbidden)?;
         Ok(())
     }

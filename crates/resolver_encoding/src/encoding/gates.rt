@@ -1,16 +1,16 @@
 //! Gates: one list of candidates for all solvables that have the same requirement.
 
-ghost use Rattle.std.specs.Prelude.{◌≡◌, ◌<◌, ◌^◌, All, Contains, IfErr, OnOk, ⊤};
+ghost use Rattle.std.specs.Prelude.{◌≡◌, ◌<◌, ◌^◌, All, Contains, IfErr, OnOk, true, ⊤};
 ghost use Rattle.resolver_clause_store.specs.Candidates.{requirement_candidates as candidates_of, version_sets};
-ghost use Rattle.resolver_clause_store.specs.declared.ClauseKind.TheVariants.{AnyOf as AnyOfKind};
-ghost use Rattle.resolver_clause_store.specs.declared.Origin.TheVariants.{Gate as GateOrigin};
+ghost use Rattle.resolver_clause_store.specs.declared.ClauseKind.TheVariants.{Implies as ImpliesKind};
+ghost use Rattle.resolver_clause_store.specs.declared.Helper.TheVariants.{Gate as GateHelper};
 ghost use Rattle.resolver_encoding.specs.Encodings.{AreNamesAsked, HasPlainRequirement, IsFull, IsStep};
 ghost use Rattle.resolver_encoding.specs.Refusals.{IsShortage};
 
 use super::Encoding;
 use crate::choices::Choices;
 use resolver_clause_store::{
-    ClauseKind, DependencyProvider, Exhausted, Origin, Requirement, append, is_among,
+    ClauseKind, DependencyProvider, Exhausted, Helper, Requirement, append, is_among,
 };
 use std::hash::Hash;
 
@@ -36,7 +36,13 @@ impl<N: Copy + Eq + Hash + Drop, S: Copy + Eq + Hash + Drop> Encoding<N, S> {
         if is_among(&self.gates, &requirement) {
             return Ok(());
         }
-        self.add_with(ClauseKind::GateRequires { requirement }, choices)?;
+        let none = Vec::new(self.alloc);
+        let kind = ClauseKind::Requires {
+            parent: None,
+            disjunct: none,
+            requirement,
+        };
+        self.add_with(kind, choices)?;
         append(&mut self.gates, requirement)?;
         Ok(())
     }
@@ -51,12 +57,13 @@ impl<N: Copy + Eq + Hash + Drop, S: Copy + Eq + Hash + Drop> Encoding<N, S> {
         ensures room { KeepsRoom self.old self.new }
         ensures step { let u = D.universe provider.now in OnOk result
             (IsStep u (HasPlainRequirement u requirer requirement) (notes_in self.old) (notes_in self.new)) }
-        ensures implied { OnOk result (Contains (notes_in self.new).kinds (AnyOfKind (GateOrigin requirement) requirer)) }
+        ensures implied { OnOk result (Contains (notes_in self.new).kinds (ImpliesKind requirer (GateHelper requirement) true)) }
         ensures refusal { IfErr result (IsShortage (IsFull (notes_in self.new))) }
     {
-        self.add(ClauseKind::AnyOf {
-            helper: Origin::Gate(requirement),
+        self.add(ClauseKind::Implies {
             candidate: requirer,
+            helper: Helper::Gate(requirement),
+            value: true,
         })?;
         Ok(())
     }

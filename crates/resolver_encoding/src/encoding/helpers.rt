@@ -1,16 +1,16 @@
-//! Helpers of the version sets of conditions.
+//! Helpers, and those of the version sets of conditions.
 
-ghost use Rattle.std.specs.Prelude.{◌≡◌, All, Contains, IfErr, OnOk, ⊤};
+ghost use Rattle.std.specs.Prelude.{◌≡◌, ℕ, All, Bool, Contains, IfErr, OnOk, true, ⊤};
 ghost use Rattle.resolver_clause_store.specs.Caches.{IsTrueCache};
-ghost use Rattle.resolver_clause_store.specs.Candidates.{matching};
-ghost use Rattle.resolver_clause_store.specs.declared.ClauseKind.TheVariants.{AnyOf as AnyOfKind};
-ghost use Rattle.resolver_clause_store.specs.declared.Origin.TheVariants.{ConditionHelper as Helper};
+ghost use Rattle.resolver_clause_store.specs.declared.ClauseKind.TheVariants.{Implies as ImpliesKind};
+ghost use Rattle.resolver_clause_store.specs.declared.Helper.TheVariants.{Bit};
 ghost use Rattle.resolver_encoding.specs.Encodings.{IsFull, IsStep};
 ghost use Rattle.resolver_encoding.specs.Refusals.{IsShortage, IsStop};
+ghost use Rattle.resolver_encoding.specs.Truth.{follows};
 
 use super::Encoding;
 use resolver_clause_store::{
-    ClauseKind, DependencyProvider, Exhausted, Interner, Interrupted, Origin, VersionSetId, append,
+    ClauseKind, DependencyProvider, Exhausted, Helper, Interner, Interrupted, VersionSetId, append,
     is_among,
 };
 use std::hash::Hash;
@@ -18,24 +18,27 @@ use std::hash::Hash;
 impl<N: Copy + Eq + Hash + Drop, S: Copy + Eq + Hash + Drop> Encoding<N, S> {
     ghost use Rattle.resolver_encoding.specs.Notes.{KeepsRoom, KeepsTrue, cache_in, notes_in};
 
-    /// Adds the clauses by which each of these candidates implies the condition helper of a version set.
-    fn imply_each<D: DependencyProvider<NameId = N, SolvableId = S>>(
+    /// Adds the clauses by which each of these candidates implies a helper, other than a bit.
+    pub(super) fn imply_each<D: DependencyProvider<NameId = N, SolvableId = S>>(
         &mut self,
         provider: &D,
-        version_set: VersionSetId,
+        helper: Helper<N>,
         candidates: &[S],
     ) -> Result<(), Exhausted>
-        requires candidates { candidates.now ≡ matching (D.universe provider.now) version_set }
+        requires no_bit { (n : N) (i : ℕ) → helper ≡ Bit n i → ⊥ }
+        requires follow { All (λ s. (codes : N → ℕ → S → Bool) → follows (D.universe provider.now) codes helper s ≡ true) candidates.now }
         ensures room { KeepsRoom self.old self.new }
         ensures step { OnOk result (IsStep (D.universe provider.now) (λ root. ⊤) (notes_in self.old) (notes_in self.new)) }
-        ensures follow { OnOk result (All (λ s. Contains (notes_in self.new).kinds (AnyOfKind (Helper version_set) s)) candidates.now) }
+        ensures implied { OnOk result (All (λ s. Contains (notes_in self.new).kinds (ImpliesKind s helper true)) candidates.now) }
         ensures helped { OnOk result ((notes_in self.new).helped ≡ (notes_in self.old).helped) }
+        ensures constrained { OnOk result ((notes_in self.new).constrained ≡ (notes_in self.old).constrained) }
         ensures refusal { IfErr result (IsShortage (IsFull (notes_in self.new))) }
     {
         for candidate in candidates {
-            self.add(ClauseKind::AnyOf {
-                helper: Origin::ConditionHelper(version_set),
+            self.add(ClauseKind::Implies {
                 candidate: *candidate,
+                helper,
+                value: true,
             })?;
         }
         Ok(())
@@ -58,7 +61,8 @@ impl<N: Copy + Eq + Hash + Drop, S: Copy + Eq + Hash + Drop> Encoding<N, S> {
         }
         self.cache.fetch_matching(provider, version_set)?;
         let candidates = Vec::from_slice(self.alloc, self.cache.matching(version_set))?;
-        self.imply_each(provider, version_set, &candidates)?;
+        let helper = Helper::Condition(version_set);
+        self.imply_each(provider, helper, &candidates)?;
         append(&mut self.helped, version_set)?;
         Ok(())
     }

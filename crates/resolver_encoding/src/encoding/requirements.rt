@@ -1,6 +1,6 @@
 //! Clauses of requirements.
 
-ghost use Rattle.std.specs.Prelude.{◌≡◌, ◌<◌, ◌^◌, [], All, Contains, IfErr, IfOk, IfSome, None, OnOk};
+ghost use Rattle.std.specs.Prelude.{◌≡◌, ◌<◌, ◌^◌, [], All, Contains, IfErr, IfOk, IfSome, None, OnOk, Some};
 ghost use Rattle.resolver_clause_store.specs.Caches.{IsTrueCache};
 ghost use Rattle.resolver_clause_store.specs.Candidates.{requirement_candidates as candidates_of, version_sets};
 ghost use Rattle.resolver_clause_store.specs.Variables.{AreDistinct};
@@ -18,7 +18,7 @@ use crate::choices::{Choices, choices_of};
 use crate::disjuncts::{Entry, disjuncts_of, is_met, without_repeats};
 use indexmap::IndexSet;
 use resolver_clause_store::{
-    By, ClauseKind, ConditionId, ConditionalRequirement, DependencyProvider, Disjunct, Interner,
+    By, ClauseKind, ConditionId, ConditionalRequirement, DependencyProvider, Interner,
     Interrupted, Requirement, is_among,
 };
 use std::hash::Hash;
@@ -60,7 +60,7 @@ impl<N: Copy + Eq + Hash + Drop, S: Copy + Eq + Hash + Drop> Encoding<N, S> {
         ensures room { KeepsTrue (D.universe provider.now) self.old self.new }
         ensures step { let u = D.universe provider.now in OnOk result
             (IsStep u (IsTrueUnder u (entry_of entry)) (notes_in self.old) (notes_in self.new)) }
-        ensures read { OnOk result (Contains (notes_in self.new).kinds (RequiresKind entry.by entry.disjunct.items entry.requirement)) }
+        ensures read { OnOk result (Contains (notes_in self.new).kinds (RequiresKind (Some entry.by) entry.disjunct entry.requirement)) }
         ensures refusal { IfErr result (IsStop (D.may_cancel provider.now) (IsFull (notes_in self.new))) }
     {
         self.help_each(provider, &entry.disjunct)?;
@@ -70,8 +70,8 @@ impl<N: Copy + Eq + Hash + Drop, S: Copy + Eq + Hash + Drop> Encoding<N, S> {
             requirement,
         } = entry;
         let kind = ClauseKind::Requires {
-            parent: by,
-            disjunct: Disjunct::new(self.alloc, disjunct)?,
+            parent: Some(by),
+            disjunct,
             requirement,
         };
         self.add_with(kind, choices)?;

@@ -5,7 +5,7 @@ ghost use Rattle.resolver_clause_store.specs.TrailView.{variable_count};
 ghost use Rattle.resolver_clause_store.specs.Variables.{AreDistinct, origins_in};
 
 use resolver_clause_store::{
-    Exhausted, Literal, Origin, Requirement, Trail, Variable, Variables, VersionSetId,
+    Exhausted, Helper, Literal, Origin, Requirement, Trail, Variable, Variables, VersionSetId,
 };
 use resolver_encoding::Chosen;
 use std::alloc::Global;
@@ -15,7 +15,7 @@ use std::test::Fail;
 fn variables(alloc: Global) -> Result<Variables<u32, u32>, Exhausted>
     ensures distinct { IfOk result (λ v. AreDistinct (origins_in v)) }
 {
-    let gate = Origin::Gate(Requirement::Single(VersionSetId(7)));
+    let gate = Origin::Helper(Helper::Gate(Requirement::Single(VersionSetId(7))));
     let mut variables = Variables::new(alloc, 5);
     variables.intern(Origin::Root)?;
     variables.intern(Origin::Solvable(11))?;

@@ -15,7 +15,7 @@ ghost use Rattle.resolvo.specs.TestProvider.{test_universe};
 use crate::test_provider::TestProvider;
 use indexmap::IndexSet;
 use resolver_clause_store::{
-    Cache, ConditionId, ConditionalRequirement, DependencyProvider, Exhausted, Interner,
+    Cache, ConditionId, ConditionalRequirement, DependencyProvider, Exhausted, Helper, Interner,
     Interrupted, Origin, Requirement, Variable, Variables, VersionSetId, append, clause, has,
     is_among,
 };
@@ -53,11 +53,12 @@ fn is_absent(solvable: u32) -> (Origin<u32, u32>, bool) {
 }
 
 fn bit(name: u32, index: u32, value: bool) -> (Origin<u32, u32>, bool) {
-    (Origin::Bit { name, index }, value)
+    (Origin::Helper(Helper::Bit { name, index }), value)
 }
 
 fn helper(version_set: u32, positive: bool) -> (Origin<u32, u32>, bool) {
-    (Origin::ConditionHelper(VersionSetId(version_set)), positive)
+    let helper = Helper::Condition(VersionSetId(version_set));
+    (Origin::Helper(helper), positive)
 }
 
 /// Returns a provider whose solvables require and constrain version sets.
@@ -124,13 +125,7 @@ fn push_registered<N: Copy + Eq + Hash + Drop, S: Copy + Eq + Hash + Drop>(
             list.push(solvable)?;
             Ok(true)
         }
-        Some(
-            Origin::Root
-            | Origin::Bit { .. }
-            | Origin::Gate(_)
-            | Origin::ConstraintHelper(_)
-            | Origin::ConditionHelper(_),
-        ) => Ok(true),
+        Some(Origin::Root | Origin::Helper(_)) => Ok(true),
     }
 }
 
@@ -684,10 +679,10 @@ fn a_condition_has_helpers(rt: HostRuntime) -> Result<(), Fail> {
     let provider = provider_of(rt.alloc(), &[], &[])?;
     let root = [always(11), always(24), when(11_020, 34)];
     let wanted: [(usize, Literals<'_>); 5] = [
-        (3, &[helper(11, true), is_absent(11)]),
+        (3, &[is_absent(11), helper(11, true)]),
         (4, &[ROOT, helper(11, false), is_there(34)]),
-        (5, &[helper(20, true), is_absent(21)]),
-        (6, &[helper(20, true), is_absent(24)]),
+        (5, &[is_absent(21), helper(20, true)]),
+        (6, &[is_absent(24), helper(20, true)]),
         (7, &[ROOT, helper(20, false), is_there(34)]),
     ];
     assert!(rt; states(rt.alloc(), provider, None, &root, 8, &wanted));
@@ -731,7 +726,7 @@ fn a_condition_is_encoded_once_it_holds(rt: HostRuntime) -> Result<(), Fail> {
         (Progress::Nothing, 7, 0, 3, 124),
     ];
     let wanted: [(usize, Literals<'_>); 2] = [
-        (5, &[helper(24, true), is_absent(24)]),
+        (5, &[is_absent(24), helper(24, true)]),
         (6, &[is_absent(11), helper(24, false), is_there(44)]),
     ];
     let root = [always(11), always(20)];
@@ -763,7 +758,7 @@ fn a_disjunct_that_does_not_hold_is_put_off(rt: HostRuntime) -> Result<(), Fail>
         (Progress::Nothing, 7, 1, 3, 1234),
     ];
     let wanted: [(usize, Literals<'_>); 2] = [
-        (5, &[helper(24, true), is_absent(24)]),
+        (5, &[is_absent(24), helper(24, true)]),
         (6, &[is_absent(11), helper(24, false), is_there(44)]),
     ];
     let root = [always(11), always(20)];
@@ -938,8 +933,8 @@ fn a_disjunct_names_each_version_set_once(rt: HostRuntime) -> Result<(), Fail> {
     let provider = provider_of(rt.alloc(), &[], &[])?;
     let root = [always(34), always(14), when(34_014_034, 44)];
     let wanted: [(usize, Literals<'_>); 3] = [
-        (3, &[helper(34, true), is_absent(34)]),
-        (4, &[helper(14, true), is_absent(14)]),
+        (3, &[is_absent(34), helper(34, true)]),
+        (4, &[is_absent(14), helper(14, true)]),
         (
             5,
             &[ROOT, helper(34, false), helper(14, false), is_there(44)],

@@ -4,7 +4,7 @@ ghost use Rattle.std.specs.Prelude.{All, length, ◌<◌};
 
 use crate::test_provider::TestProvider;
 use resolver_clause_store::{
-    By, Cache, ClauseKind, Interrupted, Origin, Requirement, VersionSetId,
+    By, Cache, ClauseKind, Helper, Interrupted, Requirement, VersionSetId,
 };
 use resolver_encoding::rules_of_clauses;
 use resolver_report::Rule;
@@ -82,34 +82,40 @@ fn is_marked(rule: Option<&Rule<u32, u32>>, marked: u32) -> bool {
     }
 }
 
-fn asks_through_gate(candidate: u32) -> Kind {
-    ClauseKind::AnyOf {
-        helper: Origin::Gate(BOTH),
+fn implies(candidate: u32, helper: Helper<u32>, value: bool) -> Kind {
+    ClauseKind::Implies {
         candidate,
+        helper,
+        value,
+    }
+}
+
+fn asks_through_gate(candidate: u32) -> Kind {
+    implies(candidate, Helper::Gate(BOTH), true)
+}
+
+fn gate(alloc: Global) -> Kind {
+    ClauseKind::Requires {
+        parent: None,
+        disjunct: Vec::new(alloc),
+        requirement: BOTH,
     }
 }
 
 fn constrains_through_helper(parent: By<u32>) -> Kind {
-    ClauseKind::ConstrainsParent {
+    ClauseKind::Constrains {
         parent,
         version_set: VersionSetId(29),
+        candidate: None,
     }
 }
 
 fn excludes(candidate: u32) -> Kind {
-    ClauseKind::ConstrainsExcluded {
-        candidate,
-        version_set: VersionSetId(29),
-    }
+    implies(candidate, Helper::Constraint(VersionSetId(29)), true)
 }
 
 fn has_bit(instance: u32, index: u32, value: bool) -> Kind {
-    ClauseKind::HasBit {
-        name: 2,
-        instance,
-        index,
-        value,
-    }
+    implies(instance, Helper::Bit { name: 2, index }, value)
 }
 
 #[test]
@@ -118,7 +124,7 @@ fn a_gate_stands_for_its_requirers_in_the_core(rt: HostRuntime) -> Result<(), Fa
         ClauseKind::InstallRoot,
         asks_through_gate(11),
         asks_through_gate(14),
-        ClauseKind::GateRequires { requirement: BOTH },
+        gate(rt.alloc()),
     ]?;
     let rules = rules_of(rt.alloc(), kinds, &[0, 2, 3])?;
     assert_eq!(rt; rules.len(), 1);
@@ -128,10 +134,7 @@ fn a_gate_stands_for_its_requirers_in_the_core(rt: HostRuntime) -> Result<(), Fa
 
 #[test]
 fn a_gate_without_requirers_states_nothing(rt: HostRuntime) -> Result<(), Fail> {
-    let kinds = vec![in rt.alloc();
-        asks_through_gate(11),
-        ClauseKind::GateRequires { requirement: BOTH },
-    ]?;
+    let kinds = vec![in rt.alloc(); asks_through_gate(11), gate(rt.alloc())]?;
     let rules = rules_of(rt.alloc(), kinds, &[1])?;
     assert_eq!(rt; rules.len(), 0);
     Ok(())

@@ -1,8 +1,17 @@
-use Rattle.resolver_encoding.specs.Listing.{StatesRule, ListsInstance}
-use Rattle.resolver_encoding.proofs.ListingLemmas.{added_both}
+use Rattle.std.proofs.Common.{subst, sym}
+use Rattle.resolver_clause_store.specs.declared.ClauseKind.{ClauseKind}
+use Rattle.resolver_encoding.specs.Listing.{AddsRules, States}
 use Rattle.resolver_encoding.proofs.explain.add_stated.Goals as goal
 
-pub returns-clause-added : goal.returns-clause-added
-returns-clause-added g c = added_both c.args.listing.now c.add_rules.new.listing c.add_instances.new.listing
-    (StatesRule (g.D.Interner.universe c.args.provider.now) c.args.sources.now c.args.kind.now) (ListsInstance c.args.kind.now)
-    c.in_ok-add_rules.ensures.added c.in_ok-add_instances.ensures.added
+pub returns-in_ok-add_requirement-in-Requires-clause-added : goal.returns-in_ok-add_requirement-in-Requires-clause-added
+returns-in_ok-add_requirement-in-Requires-clause-added g c =
+    let Adds : ClauseKind g.row.D-NameId.Denot g.row.D-SolvableId.Denot → Type 0 =
+    λ k. AddsRules (States (g.D.Interner.universe c.args.provider.now) c.args.sources.now k) c.args.listing.now c.add_requirement.new.listing in
+    subst Adds (sym c.in-Requires.is) c.in_ok-add_requirement-in-Requires.ensures.added
+
+pub returns-in_ok-add_constraint-in-Constrains-clause-added : goal.returns-in_ok-add_constraint-in-Constrains-clause-added
+returns-in_ok-add_constraint-in-Constrains-clause-added g c =
+    let u = g.D.Interner.universe c.args.provider.now in
+    let Adds : ClauseKind g.row.D-NameId.Denot g.row.D-SolvableId.Denot → Type 0 =
+    λ k. AddsRules (States u c.args.sources.now k) c.args.listing.now c.add_constraint.new.listing in
+    subst Adds (sym c.in-Constrains.is) (c.in_ok-add_constraint-in-Constrains.ensures.added u)

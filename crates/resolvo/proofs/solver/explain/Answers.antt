@@ -2,7 +2,7 @@ use Rattle.std.proofs.Common.{arith}
 use Rattle.std.proofs.lemmas.Grind.{common_steps}
 use Rattle.std.proofs.Common.{sym, subst, Bool, List}
 use Rattle.resolver_clause_store.specs.declared.ClauseKind.{ClauseKind}
-use Rattle.resolver_clause_store.specs.declared.Origin.{Origin}
+use Rattle.resolver_clause_store.specs.declared.Helper.{Helper}
 use Rattle.resolver_encoding.specs.Core.{implied_in}
 use Rattle.resolver_encoding.specs.Truth.{AreListed, AreStated}
 use Rattle.resolver_encoding.specs.Values.{kinds_at}
@@ -13,8 +13,8 @@ use Rattle.resolvo.proofs.solver.explain.Goals as goal
 pub returns-clause-explained : goal.returns-clause-explained
 returns-clause-explained g c = λ root notes kinds encoding core.
     let u = g.D.Interner.universe c.args.provider.now in
-    let Implied : List (ClauseKind g.row.D-NameId.Denot g.row.D-SolvableId.Denot) → Origin g.row.D-NameId.Denot g.row.D-SolvableId.Denot →
-    g.row.D-SolvableId.Denot → Bool = λ ks o s. implied_in u g.D.NameId.PartialEq.eq (kinds_at ks c.args.core.now) o s in
+    let Implied : List (ClauseKind g.row.D-NameId.Denot g.row.D-SolvableId.Denot) → Helper g.row.D-NameId.Denot →
+    g.row.D-SolvableId.Denot → Bool = λ ks h s. implied_in u g.D.NameId.PartialEq.eq (kinds_at ks c.args.core.now) h s in
     let Listed : List (ClauseKind g.row.D-NameId.Denot g.row.D-SolvableId.Denot) → Type 0 =
     λ ks. AreListed u (Implied ks) (kinds_at ks c.args.core.now) c.in_ok-stated.stated.items in
     let Stated : List (ClauseKind g.row.D-NameId.Denot g.row.D-SolvableId.Denot) → Type 0 =

@@ -1,7 +1,8 @@
 use Rattle.std.proofs.Common.{◌≡◌, ◌∙◌, refl, sym, ap, subst, arith, All, Contains, List, false}
 use Rattle.std.specs.Prelude.{Some, slice_get, ⊤}
 use Rattle.std.proofs.lemmas.List.Elements.{All-nil}
-use Rattle.resolver_clause_store.specs.declared.ClauseKind.TheVariants.{HasBit}
+use Rattle.resolver_clause_store.specs.declared.ClauseKind.TheVariants.{Implies}
+use Rattle.resolver_clause_store.specs.declared.Helper.TheVariants.{Bit}
 use Rattle.resolver_clause_store.proofs.SetLemmas.{All-done}
 use Rattle.resolver_encoding.specs.Encodings.{coding_for}
 use Rattle.resolver_encoding.specs.Groups.{AreGroups, IsAt}
@@ -17,7 +18,7 @@ pub loop-other-init : goal.loop-other-init
 loop-other-init g c = record {
   room = KeepsRoom-same _;
   step = IsStep-same (g.D.Interner.universe c.args.provider.now) (coding_for c.args.name c.args.number c.args.solvable) (λ root. ⊤) (notes_in c.args.self.now);
-  begun = All-nil (λ t. Contains (notes_in c.args.self.now).kinds (HasBit c.args.name t c.in-Some.index false));
+  begun = All-nil (λ t. Contains (notes_in c.args.self.now).kinds (Implies t (Bit c.args.name c.in-Some.index) false));
   groups = refl;
   requirements = refl;
 }
@@ -47,7 +48,7 @@ loop-other-preserved g c =
     record {
       room = KeepsRoom-trans _ _ _ before.room c.add.ensures.room;
       step = IsStep-trans u (coding_for n k s) (λ root. ⊤) _ _ _ before.step step;
-      begun = All-grown (λ x. Contains old.kinds (HasBit n x i false)) (λ x. Contains new.kinds (HasBit n x i false)) list j t (λ y h.
+      begun = All-grown (λ x. Contains old.kinds (Implies x (Bit n i) false)) (λ x. Contains new.kinds (Implies x (Bit n i) false)) list j t (λ y h.
           step.growth.kinds _ h) (omega arith) c.other-item.is before.begun (clause_listed u old new _ adds);
       groups = ap (λ x. x.groups) adds.is ∙ before.groups;
       requirements = ap (λ x. x.requirements) adds.is ∙ before.requirements;
@@ -58,9 +59,9 @@ returns-clause-begun g c =
     let kinds = (notes_in c.loop-other.self).kinds in
     let n = c.args.name in
     let index = c.in-Some.index in
-    let Begun : List g.row.S.Denot → Type 0 = λ list. All (λ t. Contains kinds (HasBit n t index false)) list in
+    let Begun : List g.row.S.Denot → Type 0 = λ list. All (λ t. Contains kinds (Implies t (Bit n index) false)) list in
     let all = subst Begun (c.deref-other-items.ensures.value ∙ c.in_ok-earlier.ensures.items)
-    (All-done (λ t. Contains kinds (HasBit n t index false)) c.deref-other-items.result.now c.loop-other.other-index (omega arith)
+    (All-done (λ t. Contains kinds (Implies t (Bit n index) false)) c.deref-other-items.result.now c.loop-other.other-index (omega arith)
     c.loop-other.invariant.begun) in
     λ i begins sound k t at. digit_begun kinds n c.named.result.now c.args.number index i k t all c.in-Some.ensures begins
     (c.named.ensures.every_at sound k t at) (c.requires.below sound k t at)

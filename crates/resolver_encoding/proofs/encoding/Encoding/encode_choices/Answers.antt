@@ -3,8 +3,7 @@ use Rattle.std.specs.Prelude.{⊤}
 use Rattle.std.proofs.lemmas.List.Elements.{All-contains}
 use Rattle.resolver_clause_store.specs.Candidates.{version_sets}
 use Rattle.resolver_clause_store.specs.declared.VersionSetId.{VersionSetId}
-use Rattle.resolver_clause_store.specs.declared.ClauseKind.TheVariants.{Requires}
-use Rattle.resolver_encoding.specs.Encodings.{AddsKind, IsTrueUnder, idle}
+use Rattle.resolver_encoding.specs.Encodings.{IsTrueUnder, idle}
 use Rattle.resolver_encoding.specs.Notes.{entry_of, notes_in}
 use Rattle.resolver_encoding.proofs.EncodingLemmas.{IsStep-trans, IsStep-weaker, clause_listed}
 use Rattle.resolver_encoding.proofs.NoteLemmas.{IsStep-kind}
@@ -15,17 +14,15 @@ pub returns-clause-step : goal.returns-clause-step
 returns-clause-step g c =
     let u = g.D.Interner.universe c.args.provider.now in
     let r = c.args.entry.requirement in
-    let by = c.args.entry.by in
     let list = c.args.entry.disjunct.items in
     let Premise = IsTrueUnder u (entry_of c.args.entry) in
     let mid = notes_in c.help_each.new.self in
-    let Adds : List VersionSetId → Type 0 = λ d. AddsKind u (Requires by d r) mid (notes_in c.add_with.new.self) in
-    let adds = subst Adds c.in_ok-new.ensures (c.in_ok-add_with.ensures.added u c.requires.candidates) in
+    let adds = c.in_ok-add_with.ensures.added u c.requires.candidates in
     let grown = c.in_ok-help_each.ensures.step in
     let AllHelped : List VersionSetId → Type 0 = λ list. All (Contains mid.helped) list in
     let helped = subst AllHelped c.deref.ensures.value c.in_ok-help_each.ensures.helped in
     IsStep-trans u idle Premise _ _ _ (IsStep-weaker u idle (λ root. ⊤) Premise (λ root _. tt) _ _ grown)
-    (IsStep-kind u idle Premise mid (notes_in c.add_with.new.self) (Requires by list r) adds (λ root asks before codes _. asks) tt tt (record {
+    (IsStep-kind u idle Premise mid (notes_in c.add_with.new.self) _ adds (λ root asks before codes _. asks) tt (record {
       helpers = λ v h. All-contains (Contains mid.helped) list v helped h;
       packages = λ v h. let Has : List g.row.N.Denot → Type 0 = λ names. Contains names (u.version_set_name v) in
           subst Has (sym grown.asked) (All-contains (λ w. Contains (notes_in c.args.self.now).asked (u.version_set_name w))
@@ -39,9 +36,7 @@ returns-clause-step g c =
 pub returns-clause-read : goal.returns-clause-read
 returns-clause-read g c =
     let u = g.D.Interner.universe c.args.provider.now in
-    let Listed : List VersionSetId → Type 0 = λ d. Contains (notes_in c.add_with.new.self).kinds (Requires c.args.entry.by d c.args.entry.requirement) in
-    subst Listed c.in_ok-new.ensures
-    (clause_listed u (notes_in c.help_each.new.self) (notes_in c.add_with.new.self) _ (c.in_ok-add_with.ensures.added u c.requires.candidates))
+    clause_listed u (notes_in c.help_each.new.self) (notes_in c.add_with.new.self) _ (c.in_ok-add_with.ensures.added u c.requires.candidates)
 
 pub returns-clause-room : goal.returns-clause-room
 returns-clause-room g c = KeepsTrue-trans _ _ _ c.help_each.ensures.room (KeepsTrue-of _ _ c.add_with.ensures.room)

@@ -18,7 +18,7 @@ returns-clause-step g c =
     (IsAskStep-of u Called Premise _ _ c.in_ok-encode_choices.ensures.step)
 
 pub returns-clause-read : goal.returns-clause-read
-returns-clause-read g c = has_direct c.args.entry.disjunct.items refl c.in_ok-encode_choices.ensures.read
+returns-clause-read g c = has_direct c.args.entry.disjunct refl c.in_ok-encode_choices.ensures.read
 
 pub returns-clause-room : goal.returns-clause-room
 returns-clause-room g c =

@@ -13,7 +13,7 @@ returns-clause-step g c =
     let Names : g.row.N.Denot → Type 0 = λ n. Contains (u.package_named n).excluded (c.args.solvable, c.args.reason) in
     λ doing inside. let Asks : g.row.N.Denot → Type 0 = λ n. Contains (doing.asking ++ (notes_in c.args.self.now).asked) n in
     IsStep-kind u doing (λ root. ⊤) (notes_in c.args.self.now) _ (Excluded c.args.solvable c.args.reason) (c.in_ok-add.ensures.added u refl)
-    (λ root _ _ codes _. inl (subst Names (sym c.requires.named) c.requires.excluded)) tt
+    (λ root _ _ codes _. inl (subst Names (sym c.requires.named) c.requires.excluded))
     (inl (subst Asks (sym c.requires.named) inside, c.if-is_among.ensures)) tt
 
 pub returns-clause-forbidden : goal.returns-clause-forbidden

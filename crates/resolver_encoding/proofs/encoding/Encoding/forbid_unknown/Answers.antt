@@ -11,7 +11,7 @@ pub returns-clause-step : goal.returns-clause-step
 returns-clause-step g c =
     let u = g.D.Interner.universe c.args.provider.now in
     IsStep-kind u idle (λ root. ⊤) (notes_in c.args.self.now) _ (Excluded c.args.solvable c.args.reason) (c.in_ok-add.ensures.added u refl)
-    (λ root _ _ codes _. inr c.requires.unknown) tt (inr c.requires.unknown) tt
+    (λ root _ _ codes _. inr c.requires.unknown) (inr c.requires.unknown) tt
 
 pub returns-clause-forbidden : goal.returns-clause-forbidden
 returns-clause-forbidden g c =

@@ -1,8 +1,8 @@
-use Rattle.std.proofs.Common.{refl}
+use Rattle.std.proofs.Common.{refl, true}
 use Rattle.std.specs.Prelude.{None}
 use Rattle.resolver_clause_store.specs.declared.By.TheVariants.{Solvable as BySolvable}
-use Rattle.resolver_clause_store.specs.declared.ClauseKind.TheVariants.{AnyOf}
-use Rattle.resolver_clause_store.specs.declared.Origin.TheVariants.{Gate}
+use Rattle.resolver_clause_store.specs.declared.ClauseKind.TheVariants.{Implies}
+use Rattle.resolver_clause_store.specs.declared.Helper.TheVariants.{Gate}
 use Rattle.resolver_encoding.specs.Encodings.{HasRequirement, idle}
 use Rattle.resolver_encoding.specs.Notes.{notes_in}
 use Rattle.resolver_encoding.proofs.EncodingLemmas.{clause_listed}
@@ -16,8 +16,8 @@ returns-clause-step g c =
     let s = c.args.requirer in
     let r = c.args.requirement in
     IsStep-kind u idle (HasRequirement u (BySolvable s) (record { condition = None; requirement = r })) (notes_in c.args.self.now) (notes_in c.add.new.self)
-    (AnyOf (Gate r) s) (c.in_ok-add.ensures.added u refl)
-    (λ root asks _ codes _. (tt, gate_follows u codes s r asks)) tt tt tt
+    (Implies s (Gate r) true) (c.in_ok-add.ensures.added u refl)
+    (λ root asks _ codes _. (refl, gate_follows u codes s r asks)) tt tt
 
 pub returns-clause-implied : goal.returns-clause-implied
 returns-clause-implied g c =

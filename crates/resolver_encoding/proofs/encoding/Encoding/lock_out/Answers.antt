@@ -15,7 +15,7 @@ returns-clause-step g c =
     let apart = not_same g.S.PartialEq.eq g.met.D.Interner.solvables_are_values c.args.candidate c.args.locked c.eq.result c.eq.ensures c.if-eq.false in
     λ doing inside. let Asks : g.row.N.Denot → Type 0 = λ n. Contains (doing.asking ++ (notes_in c.args.self.now).asked) n in
     IsStep-kind u doing (λ root. ⊤) (notes_in c.args.self.now) _ (Lock c.args.locked c.args.candidate) (c.in_ok-add.ensures.added u refl)
-    (λ root _ _ codes _. (subst Locked (sym c.requires.named) c.requires.lock, subst Listed (sym c.requires.named) c.requires.listed, apart)) tt
+    (λ root _ _ codes _. (subst Locked (sym c.requires.named) c.requires.lock, subst Listed (sym c.requires.named) c.requires.listed, apart))
     (subst Asks (sym c.requires.named) inside, c.if-is_among.ensures) tt
 
 pub returns-clause-forbidden : goal.returns-clause-forbidden
