@@ -364,20 +364,21 @@ fn the_first_bad_statement_is_reported_with_its_line(rt: HostRuntime) {
 }
 
 /// Checks that an input has this bad line.
-fn expect_bad_line(rt: &HostRuntime, input: &str, told: &str) {
-    expect_run(rt, rt.alloc(), input, "", told, 2);
+fn expect_bad_line(rt: &impl Abort, alloc: Global, input: &str, told: &str) {
+    expect_run(rt, alloc, input, "", told, 2);
 }
 
 #[test]
 fn a_statement_may_not_stand_twice(rt: HostRuntime) {
     let third = "resolve: line 3: bad statement\n";
-    expect_bad_line(&rt, "package a=1\nunknown a=1 x\nunknown a=1 x\n", third);
-    expect_bad_line(&rt, "package a=1\nexclude a=1 x\nexclude a=1 y\n", third);
-    expect_bad_line(&rt, "package a=1\nfavor a=1\nfavor a=1\n", third);
-    expect_bad_line(&rt, "package a=1\nlock a=1\nlock a=1\n", third);
+    expect_bad_line(&rt, rt.alloc(), "package a=1\nunknown a=1 x\nunknown a=1 x\n", third);
+    expect_bad_line(&rt, rt.alloc(), "package a=1\nexclude a=1 x\nexclude a=1 y\n", third);
+    expect_bad_line(&rt, rt.alloc(), "package a=1\nfavor a=1\nfavor a=1\n", third);
+    expect_bad_line(&rt, rt.alloc(), "package a=1\nlock a=1\nlock a=1\n", third);
     let fourth = "resolve: line 4: bad statement\n";
     expect_bad_line(
         &rt,
+        rt.alloc(),
         "package a=1\npackage a=2\nlock a=1\nlock a=2\n",
         fourth,
     );

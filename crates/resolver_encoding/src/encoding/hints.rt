@@ -27,7 +27,6 @@ fn required_by<N, S>(kind: &ClauseKind<N, S>) -> Option<Requirement>
 {
     match kind {
         ClauseKind::Requires { requirement, .. } => Some(*requirement),
-        ClauseKind::GateRequires { requirement } => Some(*requirement),
         _ => None,
     }
 }
