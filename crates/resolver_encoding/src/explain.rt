@@ -71,28 +71,28 @@ fn add_requirement<D: DependencyProvider>(
     cache: &mut Cache<D::NameId, D::SolvableId>,
     sources: &Groups<Helper<D::NameId>, D::SolvableId>,
     listing: &mut Listing<D::NameId, D::SolvableId>,
-    parent: Option<By<D::SolvableId>>,
+    parent: &Option<By<D::SolvableId>>,
     disjunct: &Vec<VersionSetId>,
-    requirement: Requirement,
+    requirement: &Requirement,
 ) -> Result<(), Interrupted<D::Cancel>>
     requires is_true { IsTrueCache (D.universe provider.now) cache.old }
     requires groups { AreGroups sources.now }
     requires instances { HasInstances listing.old }
     ensures is_true { IsTrueCache (D.universe provider.now) cache.new }
-    ensures added { OnOk result (AddsRules (States (D.universe provider.now) sources.now (RequiresKind parent disjunct.now requirement))
+    ensures added { OnOk result (AddsRules (States (D.universe provider.now) sources.now (RequiresKind parent.now disjunct.now requirement.now))
         listing.old listing.new) }
     ensures refusal { IfErr result (IsInterruption (D.may_cancel provider.now)) }
 {
-    let candidates = requirement_candidates(cache, provider, requirement)?;
+    let candidates = requirement_candidates(cache, provider, *requirement)?;
     match parent {
         Some(by) => {
             let when = matching_lists(listing.allocator(), provider, cache, disjunct)?;
-            listing.require(by, requirement, candidates, when)?;
+            listing.require(*by, *requirement, candidates, when)?;
             Ok(())
         }
         None => {
-            let requirers = sources.named(Helper::Gate(requirement));
-            require_each(listing, requirers, requirement, &candidates)?;
+            let requirers = sources.named(Helper::Gate(*requirement));
+            require_each(listing, requirers, *requirement, &candidates)?;
             Ok(())
         }
     }
@@ -181,19 +181,11 @@ fn add_stated<D: DependencyProvider>(
     match kind {
         ClauseKind::InstallRoot => Ok(()),
         ClauseKind::Requires {
-            parent,
+            parent: by,
             disjunct,
             requirement,
         } => {
-            add_requirement(
-                provider,
-                cache,
-                sources,
-                listing,
-                *parent,
-                disjunct,
-                *requirement,
-            )?;
+            add_requirement(provider, cache, sources, listing, by, disjunct, requirement)?;
             Ok(())
         }
         ClauseKind::Implies {

@@ -174,12 +174,8 @@ pub(crate) fn push_atoms<N: Copy + Eq + Hash + Drop, S: Copy + Eq + Hash + Drop>
             Ok(())
         }
         ClauseKind::Lock { forbidden, .. } => {
-            push_both(
-                variables,
-                literals,
-                Origin::Root,
-                Origin::Solvable(*forbidden),
-            )?;
+            let forbidden = Origin::Solvable(*forbidden);
+            push_both(variables, literals, Origin::Root, forbidden)?;
             Ok(())
         }
         ClauseKind::Excluded { solvable, .. } => {

@@ -16,7 +16,7 @@ use Rattle.resolver_encoding.proofs.explain.add_requirement.Goals as goal
 pub returns-in_ok-require-in-Some-clause-added : goal.returns-in_ok-require-in-Some-clause-added
 returns-in_ok-require-in-Some-clause-added g c =
     let u = g.D.Interner.universe c.args.provider.now in
-    let r = c.args.requirement in
+    let r = c.args.requirement.now in
     let Adds : List g.row.D-SolvableId.Denot → List (List g.row.D-SolvableId.Denot) → Type 0 =
     λ list lists. AddsRules (λ st. st ≡ requires c.in-Some.by r list lists) c.args.listing.now c.require.new.self in
     let Whens : List VersionSetId → Type 0 = λ vs. Adds (requirement_candidates u r) (map (matching u) vs) in
@@ -29,7 +29,7 @@ returns-in_ok-require-in-Some-clause-added g c =
 pub returns-in_ok-require_each-in-None-clause-added : goal.returns-in_ok-require_each-in-None-clause-added
 returns-in_ok-require_each-in-None-clause-added g c =
     let u = g.D.Interner.universe c.args.provider.now in
-    let r = c.args.requirement in
+    let r = c.args.requirement.now in
     let named = IsInGroup c.args.sources.now (Gate r) in
     let requirers = c.named-requirers.result.now in
     let Adds : List g.row.D-SolvableId.Denot → Type 0 =
