@@ -312,7 +312,7 @@ module _ (input new : Input) (it : Named) (reason : List ℕ) (s : SolvableId) (
   pub exclude_result : (b : Bool) (solvables : List Solvable) (packages : List ListedPackage) →
       new ≡ record input { tables = record t { solvables = solvables; packages = packages } } →
       MatchBool b (BecomesExcluded t.versions t.solvables solvables t.packages packages s id)
-          (IsExclusionRefused t.versions t.solvables solvables t.packages packages s) →
+      (IsExclusionRefused t.versions t.solvables solvables t.packages packages s) →
       MatchBool b (after_one input (excludes it reason) ≡ Some new) (after_one input (excludes it reason) ≡ None)
   exclude_result true solvables packages same h =
       let P : Tables → Type 0 = λ u. BecomesExcluded u.versions u.solvables solvables u.packages packages s id in

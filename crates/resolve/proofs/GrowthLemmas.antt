@@ -319,9 +319,9 @@ spec_known t new wanted word id wants e is =
     let n : (name_id (with_set t wanted) wanted.name).0 ≡ (name_id t wanted.name).0 = place_interned bytes_eq t.names wanted.name (name_itself wanted.name) in
     let same : set_of (with_set t wanted) wanted ≡ set_of t wanted = λ i. record { name = record { 0 = n i }; range = wanted.range } in
     let place : interned_place same_set (with_set t wanted).version_sets (set_of (with_set t wanted) wanted) ≡ interned_place same_set t.version_sets
-        (set_of t wanted) =
+    (set_of t wanted) =
     ap (interned_place same_set (with_set t wanted).version_sets) same ∙
-        place_interned same_set t.version_sets (set_of t wanted) (set_itself (set_of t wanted)) in
+    place_interned same_set t.version_sets (set_of t wanted) (set_itself (set_of t wanted)) in
     let here : IsKnownSpec (with_set t wanted) word id = record {
       wanted = wanted;
       wants = wants;

@@ -62,9 +62,11 @@ solved_by gives before request it root soft may_cancel at_limit exempt (Ok chose
     let Answered : Universe NameId SolvableId → Demands → List (SoftRequirement SolvableId) → Type 0 = λ u root soft. IsSoftAnswer u root soft chosen.items exempt in
     let known : Answered (catalog_universe it) root soft = listed gives before (catalog_universe it) root soft chosen.items exempt none answer in
     let At : Universe NameId SolvableId → Type 0 = λ u. Answered u root soft in
-    let Of : Demands → Type 0 = λ root. Answered u root soft in
-    (exempt, subst (Answered u (input_demands (input_in request))) list
-        (subst Of asked (subst At (ap catalog_universe same ∙ catalog_universe_is request.catalog) known)))
+    let Of : Demands → Type 0 = λ root. Answered u root soft in (
+      exempt,
+      subst (Answered u (input_demands (input_in request))) list
+          (subst Of asked (subst At (ap catalog_universe same ∙ catalog_universe_is request.catalog) known)),
+    )
 solved_by gives before request it root soft may_cancel at_limit exempt (Err (Unsolvable conflict)) same asked none list answer refusal =
     let u : Universe NameId SolvableId = universe_in (tables_in request.catalog) in
     let Given : Universe NameId SolvableId → Demands → Type 0 = λ u root. Explains u root (rules_in conflict) in

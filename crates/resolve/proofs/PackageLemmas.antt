@@ -63,7 +63,7 @@ pub ArePackagesOf-pushed : (b : Bool) (xs : List Version) (ps qs : List ListedPa
 ArePackagesOf-pushed true xs ps qs q e h new = let Q : List ListedPackage → Type 0 = λ rs. ArePackagesOf xs rs in
     subst Q (sym e) (λ n p at. ⊎_elim (λ old. h n p old) (λ here.
     let R : ℕ → Type 0 = λ k. IsPackageOf xs k p in let S : ListedPackage → Type 0 = λ r. IsPackageOf xs (length ps) r in
-        subst R (sym here.0) (subst S here.1 new))
+    subst R (sym here.0) (subst S here.1 new))
     (place_cases ps q n p at))
 ArePackagesOf-pushed false xs ps qs q e h new = let Q : List ListedPackage → Type 0 = λ rs. ArePackagesOf xs rs in subst Q (sym e) h
 

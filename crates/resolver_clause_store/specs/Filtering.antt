@@ -9,7 +9,7 @@ IsInterleaving-filter : {X : Type 0} (p : X → Bool) (xs : List X) → IsInterl
 IsInterleaving-filter p [] = interleave_none
 IsInterleaving-filter p (x ∷ xs) =
     elim (p x) as (λ b. IsInterleaving (x ∷ xs) (cond b (x ∷ filter p xs) (filter p xs))
-        (cond (not b) (x ∷ filter (λ y. not (p y)) xs) (filter (λ y. not (p y)) xs)))
+    (cond (not b) (x ∷ filter (λ y. not (p y)) xs) (filter (λ y. not (p y)) xs)))
     [ true ↦ interleave_left (IsInterleaving-filter p xs) | false ↦ interleave_right (IsInterleaving-filter p xs) ]
 
 not_both : (b : Bool) → b ≡ true → not b ≡ true → ⊥

@@ -46,7 +46,7 @@ first_open_candidate {N} {S} u earlier r s it =
 module _ {N S : Type 0} (u : Universe N S) (root : Demands) (lawful : HasLawfulSolvables u) (kinds : List (ClauseKind N S)) (codes : N → ℕ → S → Bool)
     (are_codes : AreCodes u codes) (are_true : All (IsTrueClause u codes root) kinds)
     (seeds refused exempt : List S) (spares : Spares u exempt kinds) (trail : List (Atom N S)) (settled : AreValuesSettled u kinds (Takes trail))
-        (chosen : List S)
+    (chosen : List S)
     (is_chosen : IsChosenBy trail chosen)
     (covers : CoversReached u root kinds chosen seeds exempt) where
   c : Closure u root lawful chosen seeds

@@ -62,7 +62,7 @@ pub fn finished_trails_are_answers<N, S>()
         (chosen seeds refused exempt : List S) →
         HasLawfulSolvables u → AreCodes u codes → All (IsTrueClause u codes root) kinds → Spares u exempt kinds →
         IsTrail u kinds seeds refused trail → AreValuesSettled u kinds (Takes trail) → IsChosenBy trail chosen →
-            CoversReached u root kinds chosen seeds exempt →
+        CoversReached u root kinds chosen seeds exempt →
         IsAnswerBy u root chosen seeds exempt }
 {}
 

@@ -189,7 +189,7 @@ unmet_named (OnePerPackage name instance) set wanted s h is = absurd h
 
 pub count_outside-falls : {N S : Type 0} (same : S → S → Bool) (rules : List (Rule N S)) (set wanted : List S) (s : S) → IsIdentity same →
     IsOpenRequirement set rules wanted → Contains wanted s → count_outside same (set ++ s ∷ []) (all_candidates rules) < count_outside same set
-        (all_candidates rules)
+    (all_candidates rules)
 count_outside-falls same rules set wanted s identity h is =
     count_outside-lt same set s (all_candidates rules) (Contains-all_candidates rules h.rule s h.listed (unmet_named h.rule set wanted s h.unmet is))
     (list_any-outside same identity set s (unmet_outside h.rule set wanted s h.unmet is)) (identity.itself s)

@@ -212,7 +212,7 @@ finished_for given table sources places requirements wanted numbers trail are de
     omega (arith, inside k 0 within, at)
     in
     finished given table sources places requirements wanted trail derived justified chosen loaded (same ∙
-        ap (map (given_place places)) (sym are)) each settled met
+    ap (map (given_place places)) (sym are)) each settled met
 
 -- more variables without a value
 pub justified-grown : (table : List (List Literal)) (old new : Trail) (variables : ℕ) → IsGrown old new variables → IsJustified table old →

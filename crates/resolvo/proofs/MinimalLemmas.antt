@@ -371,7 +371,7 @@ marked_next marks xs k b x size below is mark =
 
 pub copied_not : {N S : Type 0} (marks : List Bool) (rules copies : List (Rule N S)) (k : ℕ) → length marks ≡ length rules → k < length rules →
     get_or marks k false ≡ false → AllZip StatesTheSame (only_marked (take k marks) rules) copies →
-        AllZip StatesTheSame (only_marked (take (k + 1) marks) rules) copies
+    AllZip StatesTheSame (only_marked (take (k + 1) marks) rules) copies
 copied_not {N} {S} marks rules copies k size below mark same =
     let w = some_at rules k below in
     let P : List (Rule N S) → Type 0 = λ q. AllZip StatesTheSame q copies in
@@ -383,7 +383,7 @@ pub copied : {N S : Type 0} (marks : List Bool) (rules copies : List (Rule N S))
 copied {N} {S} marks rules copies k rule copy size below is mark here same =
     let P : List (Rule N S) → Type 0 = λ q. AllZip StatesTheSame q (copies ++ copy ∷ []) in
     subst P (sym (marked_next marks rules k true rule size below is mark))
-        (AllZip-push StatesTheSame (only_marked (take k marks) rules) copies rule copy same here)
+    (AllZip-push StatesTheSame (only_marked (take k marks) rules) copies rule copy same here)
 
 pub copied_all : {N S : Type 0} (marks : List Bool) (rules copies : List (Rule N S)) (k : ℕ) → length marks ≤ k →
     AllZip StatesTheSame (only_marked (take k marks) rules) copies → AllZip StatesTheSame (only_marked marks rules) copies

@@ -120,7 +120,7 @@ condition_lines-append {N} {S} rule list (x ∷ xs) ys =
 pub condition_next : {N S : Type 0} (old mid new : List (Proposition N S)) (one two three : List RuleClause) (rule : ℕ) (xs : List (Vec S Global)) (i : ℕ)
     (x : Vec S Global) →
     AppendsLines old mid one two (condition_lines rule 0 (take i xs)) → i < length xs → x ≡ get_or xs i x →
-        AppendsLines mid new two three (member_lines rule i x.items) →
+    AppendsLines mid new two three (member_lines rule i x.items) →
     AppendsLines old new one three (condition_lines rule 0 (take (i + 1) xs))
 condition_next {N} {S} old mid new one two three rule xs i x before below is more =
     let P : List (Line N S) → Type 0 = λ ls. AppendsLines old new one three ls in
@@ -148,9 +148,9 @@ all_lines-append width place (rule ∷ rules) more (code ∷ codes) others same 
 pub rules_next : {N S : Type 0} (old mid new : List (Proposition N S)) (one two three : List RuleClause) (width : ℕ) (rules : List (Rule N S)) (codes : List ℕ)
     (i : ℕ) (rule : Rule N S) (d : ℕ) →
     length rules ≡ length codes → AppendsLines old mid one two (all_lines width 0 (take i rules) (take i codes)) → i < length rules →
-        rule ≡ get_or rules i rule →
+    rule ≡ get_or rules i rule →
     AppendsLines mid new two three (rule_lines width i (get_or codes i d) rule) →
-        AppendsLines old new one three (all_lines width 0 (take (i + 1) rules) (take (i + 1) codes))
+    AppendsLines old new one three (all_lines width 0 (take (i + 1) rules) (take (i + 1) codes))
 rules_next {N} {S} old mid new one two three width rules codes i rule d same before below is more =
     let P : List (Line N S) → Type 0 = λ ls. AppendsLines old new one three ls in
     let code : ℕ = get_or codes i d in
@@ -164,7 +164,7 @@ rules_next {N} {S} old mid new one two three width rules codes i rule d same bef
     ∙ ap (λ n. all_lines width 0 (take i rules) (take i codes) ++ all_lines width n (rule ∷ []) (code ∷ [])) (omega (arith, size)) ∙
     ap (λ ls. all_lines width 0 (take i rules) (take i codes) ++ ls) (append-nil (rule_lines width i code rule)) in
     subst P (sym taken) (AppendsLines-trans old mid new one two three (all_lines width 0 (take i rules) (take i codes))
-        (rule_lines width i code rule) before more)
+    (rule_lines width i code rule) before more)
 
 -- the clause of one more bit
 pub bits_next : {N S : Type 0} (old mid new : List (Proposition N S)) (one two three : List RuleClause) (rule : ℕ) (name : N) (instance : S) (code i : ℕ)

@@ -133,7 +133,7 @@ excused-noted table trail old new pending level number more excused = ⊎_elim
 
 pub covers-noted : (table : List (List Literal)) (trail : Trail) (pairs : List WatchedPair) (old new : List Late) (pending : List ℕ) (head : ℕ) →
     ((n : ℕ) → IsNoted old pending n → IsNoted new pending n) → IsWatchInvariant table trail pairs old pending head →
-        IsWatchInvariant table trail pairs new pending head
+    IsWatchInvariant table trail pairs new pending head
 covers-noted table trail pairs old new pending head more covers = record {
   watched = λ number literal watching fails. excused-noted table trail old new pending _ number (more number) (covers.watched number literal watching fails);
   constant = λ number inside none. more number (covers.constant number inside none);
@@ -349,7 +349,7 @@ pub moves : (table : List (List Literal)) (trail : Trail) (old : Propagator) (wa
     (other to : Literal) → IsVisiting table trail old falsified place →
     MovesWatch (lists_of old.watches) (lists_of watches) (pairs_of old.watches) (pairs_of watches) falsified.literal to place number →
     FitClauses table (lists_of watches) → IsPaired (pairs_of old.watches) number falsified.literal other →
-        IsReplacement trail (clause_at table number) other to →
+    IsReplacement trail (clause_at table number) other to →
     place < length (watchers_of old falsified.literal) → ContinuesVisit table trail old (with_watches old watches) falsified place place
 moves table trail old watches falsified place number other to v m fit p r within =
     let was = v.propagator in

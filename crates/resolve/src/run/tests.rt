@@ -371,9 +371,24 @@ fn expect_bad_line(rt: &impl Abort, alloc: Global, input: &str, told: &str) {
 #[test]
 fn a_statement_may_not_stand_twice(rt: HostRuntime) {
     let third = "resolve: line 3: bad statement\n";
-    expect_bad_line(&rt, rt.alloc(), "package a=1\nunknown a=1 x\nunknown a=1 x\n", third);
-    expect_bad_line(&rt, rt.alloc(), "package a=1\nexclude a=1 x\nexclude a=1 y\n", third);
-    expect_bad_line(&rt, rt.alloc(), "package a=1\nfavor a=1\nfavor a=1\n", third);
+    expect_bad_line(
+        &rt,
+        rt.alloc(),
+        "package a=1\nunknown a=1 x\nunknown a=1 x\n",
+        third,
+    );
+    expect_bad_line(
+        &rt,
+        rt.alloc(),
+        "package a=1\nexclude a=1 x\nexclude a=1 y\n",
+        third,
+    );
+    expect_bad_line(
+        &rt,
+        rt.alloc(),
+        "package a=1\nfavor a=1\nfavor a=1\n",
+        third,
+    );
     expect_bad_line(&rt, rt.alloc(), "package a=1\nlock a=1\nlock a=1\n", third);
     let fourth = "resolve: line 4: bad statement\n";
     expect_bad_line(

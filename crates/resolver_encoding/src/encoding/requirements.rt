@@ -18,8 +18,8 @@ use crate::choices::{Choices, choices_of};
 use crate::disjuncts::{Entry, disjuncts_of, is_met, without_repeats};
 use indexmap::IndexSet;
 use resolver_clause_store::{
-    By, ClauseKind, ConditionId, ConditionalRequirement, DependencyProvider, Interner,
-    Interrupted, Requirement, is_among,
+    By, ClauseKind, ConditionId, ConditionalRequirement, DependencyProvider, Interner, Interrupted,
+    Requirement, is_among,
 };
 use std::hash::Hash;
 

@@ -20,7 +20,7 @@ imply_each-requires g c =
     let Identity : (g.row.S.Denot → g.row.S.Denot → Bool) → Type 0 = λ same. IsIdentity same in
     let identity = subst Identity (sym (g.met.D.Interner.solvables_compare c.args.provider.now)) g.met.D.Interner.solvables_are_values in
     let have = all_have u identity c.deref.result.now (matching u c.args.version_set)
-        (c.deref.ensures.value ∙ c.in_ok-candidates.ensures.items ∙ c.matching.ensures u c.fetch_matching.ensures.is_true) in
+    (c.deref.ensures.value ∙ c.in_ok-candidates.ensures.items ∙ c.matching.ensures u c.fetch_matching.ensures.is_true) in
     record { no_bit = λ n i e. cc; follow = λ k d below codes. have k d below }
 
 pub append-requires-clause-absent : goal.append-requires-clause-absent

@@ -9,10 +9,10 @@ returns g c =
     record {
       part = minimal_part (rules_in c.args.self.now) (only_marked c.in_ok-marks.marks.items
           (rules_in c.args.self.now)) c.in_ok-copies.copies.items c.in_ok-rules.rules.items (rw c.rules.ensures at c.in_ok-marks.ensures.left)
-              (rw (c.deref.ensures.value, c.rules-2.ensures) at c.in_ok-copies.ensures.same) c.in_ok-rules.ensures.left;
+          (rw (c.deref.ensures.value, c.rules-2.ensures) at c.in_ok-copies.ensures.same) c.in_ok-rules.ensures.left;
       in_turn = λ refuted.
           minimal_left (rules_in c.args.self.now) (only_marked c.in_ok-marks.marks.items
-              (rules_in c.args.self.now)) c.in_ok-copies.copies.items c.in_ok-rules.rules.items
+          (rules_in c.args.self.now)) c.in_ok-copies.copies.items c.in_ok-rules.rules.items
           (rw c.rules.ensures at c.in_ok-marks.ensures.left)
           (rw (c.deref.ensures.value, c.rules-2.ensures) at c.in_ok-copies.ensures.same) c.in_ok-rules.ensures.left refuted c.in_ok-rules.ensures.refuted;
       irreducible = λ refuted.
