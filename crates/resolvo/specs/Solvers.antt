@@ -5,7 +5,7 @@ use Rattle.resolver_clause_store.specs.Caches.{IsTrueCache}
 use Rattle.resolver_clause_store.specs.Variables.{AreDistinct}
 use Rattle.resolver_encoding.specs.SoFar.{left_count}
 use Rattle.resolvo.specs.ClauseSearches.{learnt_count_of}
-use Rattle.resolvo.specs.RoundStates.{cache_of, notes_of, search_of}
+use Rattle.resolvo.specs.RoundStates.{notes_of, search_of}
 use Rattle.resolvo.specs.declared.rounds.Rounds.{Rounds}
 use Rattle.resolvo.specs.declared.solver.Solver.{Solver}
 
@@ -67,5 +67,5 @@ module _ {D C N S : Type 0} where
 
   -- the cached answers of the provider are true, and the number of each variable fits its type
   pub record IsSound (u : Universe N S) (s : Solver D C N S) : Type 0 where
-    pub true_answers : IsTrueCache u (cache_of s.rounds)
+    pub true_answers : IsTrueCache u s.rounds.encoding.cache
     pub fits : s.variable_limit ≤ 2 ^ 31
