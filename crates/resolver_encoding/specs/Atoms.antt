@@ -44,11 +44,16 @@ abbrev pub excluded_of : {N S : Type 0} → Option S → VersionSetId → Origin
 excluded_of (Some s) version_set = Solvable s
 excluded_of None version_set = Helper (Constraint version_set)
 
+-- if the requirer is true, and so are the helpers of these version sets, one of the candidates is
+abbrev pub requirement_atoms : {N S : Type 0} → Origin N S → List VersionSetId → List S → List (Atom N S)
+requirement_atoms parent disjunct candidates =
+    atom parent false ∷ (map (λ v. atom (Helper (Condition v)) false) disjunct ++ map (λ s. atom (Solvable s) true) candidates)
+
 -- the atoms of a clause, by its kind
 abbrev pub atoms_of : {N S : Type 0} → Universe N S → ClauseKind N S → List (Atom N S)
 atoms_of u InstallRoot = atom Root true ∷ []
-atoms_of u (Requires parent disjunct requirement) = atom (parent_of parent requirement) false ∷
-    (map (λ v. atom (Helper (Condition v)) false) disjunct.items ++ map (λ s. atom (Solvable s) true) (requirement_candidates u requirement))
+atoms_of u (Requires parent disjunct requirement) =
+    requirement_atoms (parent_of parent requirement) disjunct.items (requirement_candidates u requirement)
 atoms_of u (Implies candidate helper value) = atom (Solvable candidate) false ∷ atom (Helper helper) value ∷ []
 atoms_of u (Constrains parent version_set candidate) = atom (origin_by parent) false ∷ atom (excluded_of candidate version_set) false ∷ []
 atoms_of u (Lock locked forbidden) = atom Root false ∷ atom (Solvable forbidden) false ∷ []

@@ -12,6 +12,7 @@ use Rattle.resolver_clause_store.specs.Rules.{IsRefuted}
 use Rattle.resolver_clause_store.specs.TrueRules.{IsTrueRule}
 use Rattle.resolver_encoding.specs.Atoms.{atoms_of, is_satisfied}
 use Rattle.resolver_clause_store.specs.SameRequirements.{same_requirement}
+use Rattle.resolver_encoding.specs.Truth.{AreListed, AreStated}
 
 -- whether two helpers are the same
 abbrev pub same_helper : {N : Type 0} → (N → N → Bool) → HelperOf N → HelperOf N → Bool
@@ -29,6 +30,14 @@ says_implies u same_name h s k = false
 -- whether one of these clauses states that the solvable implies the helper
 abbrev pub implied_in : {N S : Type 0} → Universe N S → (N → N → Bool) → List (ClauseKind N S) → HelperOf N → S → Bool
 implied_in u same_name kinds h s = list_any (says_implies u same_name h s) kinds
+
+-- each rule that the clauses of a core state is listed
+abbrev pub ListsRulesOf : {N S : Type 0} → Universe N S → (N → N → Bool) → List (ClauseKind N S) → List (Rule N S) → Type 0
+ListsRulesOf u same_name core rules = AreListed u (implied_in u same_name core) core rules
+
+-- each listed rule is one that the clauses of a core state
+abbrev pub ListsOnlyRulesOf : {N S : Type 0} → Universe N S → (N → N → Bool) → List (ClauseKind N S) → List (Rule N S) → Type 0
+ListsOnlyRulesOf u same_name core rules = AreStated u (implied_in u same_name core) core rules
 
 -- the rules are true, and no set obeys them
 pub record IsExplained {N S : Type 0} (u : Universe N S) (root : Demands) (rules : List (Rule N S)) : Type 0 where

@@ -28,14 +28,17 @@ with_number numbers (Some clause) = numbers ++ clause.number ∷ []
 abbrev pub IsTableFull : {N S : Type 0} → Table N S → Type 0
 IsTableFull t = ((length t.origins ≡ t.variable_limit) × AreDistinct t.origins) ⊎ (length t.kinds ≡ t.clause_limit)
 
+-- the table with one clause more
+abbrev pub with_clause : {N S : Type 0} → ClauseKind N S → List Literal → Table N S → Table N S
+with_clause kind literals t = record t {
+  literals = t.literals ++ literals ∷ [];
+  kinds = t.kinds ++ kind ∷ [];
+  requirements = numbers_with kind (length t.kinds) t.requirements;
+}
+
 -- one more clause was added, with the literals of its kind
 pub record HasAdded {N S : Type 0} (u : Universe N S) (kind : ClauseKind N S) (old new : Table N S) : Type 0 where
   pub origins : Grows old.origins new.origins
   pub literals : List Literal
   pub clause : IsClauseOf u new.origins literals kind
-  pub is : new ≡ record old {
-    origins = new.origins;
-    literals = old.literals ++ literals ∷ [];
-    kinds = old.kinds ++ kind ∷ [];
-    requirements = numbers_with kind (length old.kinds) old.requirements;
-  }
+  pub is : new ≡ record (with_clause kind literals old) { origins = new.origins }

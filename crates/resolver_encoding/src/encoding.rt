@@ -7,10 +7,9 @@ ghost use Rattle.resolver_clause_store.specs.Laws.{IsIdentity};
 ghost use Rattle.resolver_clause_store.specs.Universe.{Universe};
 ghost use Rattle.resolver_clause_store.specs.Variables.{origins_in};
 ghost use Rattle.resolver_encoding.specs.Atoms.{wanted};
-ghost use Rattle.resolver_encoding.specs.Core.{implied_in};
+ghost use Rattle.resolver_encoding.specs.Core.{ListsOnlyRulesOf, ListsRulesOf};
 ghost use Rattle.resolver_encoding.specs.Encodings.{AddsKind, IsFull, IsUnread};
 ghost use Rattle.resolver_encoding.specs.Refusals.{IsShortage};
-ghost use Rattle.resolver_encoding.specs.Truth.{AreListed, AreStated};
 ghost use Rattle.resolver_encoding.specs.Values.{kinds_at};
 
 mod candidates;
@@ -172,10 +171,10 @@ impl<N: Copy + Eq + Hash + Drop, S: Copy + Eq + Hash + Drop> Encoding<N, S> {
         requires within { All (λ n. n < length (notes_in self.old).kinds) numbers.now }
         ensures limits { KeepsTrue (D.universe provider.now) self.old self.new }
         ensures same { notes_in self.new ≡ notes_in self.old }
-        ensures listed { let core = kinds_at (notes_in self.old).kinds numbers.now in
-            IfOk result (λ rules. AreListed (D.universe provider.now) (implied_in (D.universe provider.now) N.eq core) core rules.items) }
-        ensures stated { let core = kinds_at (notes_in self.old).kinds numbers.now in
-            IfOk result (λ rules. AreStated (D.universe provider.now) (implied_in (D.universe provider.now) N.eq core) core rules.items) }
+        ensures listed { IfOk result
+            (λ rules. ListsRulesOf (D.universe provider.now) N.eq (kinds_at (notes_in self.old).kinds numbers.now) rules.items) }
+        ensures stated { IfOk result
+            (λ rules. ListsOnlyRulesOf (D.universe provider.now) N.eq (kinds_at (notes_in self.old).kinds numbers.now) rules.items) }
         ensures refusal { IfErr result (IsInterruption (D.may_cancel provider.now)) }
     {
         let kinds = self.table.kinds();

@@ -8,11 +8,10 @@ ghost use Rattle.resolver_clause_store.specs.Laws.{IsIdentity};
 ghost use Rattle.resolver_clause_store.specs.Universe.{Universe};
 ghost use Rattle.resolver_clause_store.specs.declared.By.TheVariants.{Solvable as BySolvable};
 ghost use Rattle.resolver_clause_store.specs.declared.ClauseKind.TheVariants.{Constrains as ConstrainsKind, Requires as RequiresKind};
-ghost use Rattle.resolver_encoding.specs.Core.{implied_in};
+ghost use Rattle.resolver_encoding.specs.Core.{ListsOnlyRulesOf, ListsRulesOf};
 ghost use Rattle.resolver_encoding.specs.Groups.{AreGroups};
 ghost use Rattle.resolver_encoding.specs.Listing.{AddsRules, HasInstances, ListsBit, SomeOf, States};
 ghost use Rattle.resolver_clause_store.specs.Statements.{constrains, requires};
-ghost use Rattle.resolver_encoding.specs.Truth.{AreListed, AreStated};
 ghost use Rattle.resolver_encoding.specs.Values.{kinds_at};
 
 use crate::groups::Groups;
@@ -229,10 +228,10 @@ pub fn rules_of_clauses<D: DependencyProvider>(
     requires is_true { IsTrueCache (D.universe provider.now) cache.old }
     requires within { All (λ n. n < length kinds.now) numbers.now }
     ensures is_true { IsTrueCache (D.universe provider.now) cache.new }
-    ensures listed { let core = kinds_at kinds.now numbers.now in
-        IfOk result (λ rules. AreListed (D.universe provider.now) (implied_in (D.universe provider.now) D.NameId.eq core) core rules.items) }
-    ensures stated { let core = kinds_at kinds.now numbers.now in
-        IfOk result (λ rules. AreStated (D.universe provider.now) (implied_in (D.universe provider.now) D.NameId.eq core) core rules.items) }
+    ensures listed { IfOk result
+        (λ rules. ListsRulesOf (D.universe provider.now) D.NameId.eq (kinds_at kinds.now numbers.now) rules.items) }
+    ensures stated { IfOk result
+        (λ rules. ListsOnlyRulesOf (D.universe provider.now) D.NameId.eq (kinds_at kinds.now numbers.now) rules.items) }
     ensures refusal { IfErr result (IsInterruption (D.may_cancel provider.now)) }
 {
     let sources = sources_of(alloc, kinds, numbers)?;

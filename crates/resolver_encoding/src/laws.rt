@@ -21,11 +21,11 @@ ghost use Rattle.resolver_clause_store.specs.Literals.{Literal};
 ghost use Rattle.resolver_clause_store.specs.declared.Origin.{Origin};
 ghost use Rattle.resolver_clause_store.specs.declared.Rule.{Rule};
 ghost use Rattle.resolver_encoding.specs.Atoms.{Atom};
-ghost use Rattle.resolver_encoding.specs.Core.{IsExplained, implied_in};
+ghost use Rattle.resolver_encoding.specs.Core.{IsExplained, ListsOnlyRulesOf, ListsRulesOf};
 ghost use Rattle.resolver_encoding.specs.Read.{AreValuesSettled};
 ghost use Rattle.resolver_encoding.specs.ReadState.{AreSeeds, Deferred, IsRead, NoneFires};
 ghost use Rattle.resolver_encoding.specs.TrailAtoms.{CoversReached, IsAnswerBy, IsChosenBy, IsTrail, Takes};
-ghost use Rattle.resolver_encoding.specs.Truth.{HasLawfulSolvables, AreCodes, AreListed, AreStated, IsTrueClause, Spares, follows};
+ghost use Rattle.resolver_encoding.specs.Truth.{HasLawfulSolvables, AreCodes, IsTrueClause, Spares, follows};
 ghost use Rattle.resolver_encoding.specs.Values.{AreEncoded, extension, kinds_at};
 
 /// The extension of a valid set satisfies every clause of an encoding. Exempt may be what is exempt now, and any other
@@ -48,8 +48,7 @@ pub fn core_rules_explain<N, S>()
         (table : List (List Literal)) (kinds : List (ClauseKind N S)) (numbers : List ℕ) (rules : List (Rule N S)) →
         HasLawfulSolvables u → IsIdentity same_name → AreCodes u codes → AreEncoded u origins table kinds → All (IsTrueClause u codes root) kinds →
         All (λ n. n < length kinds) numbers →
-        AreListed u (implied_in u same_name (kinds_at kinds numbers)) (kinds_at kinds numbers) rules →
-        AreStated u (implied_in u same_name (kinds_at kinds numbers)) (kinds_at kinds numbers) rules →
+        ListsRulesOf u same_name (kinds_at kinds numbers) rules → ListsOnlyRulesOf u same_name (kinds_at kinds numbers) rules →
         ((values : ℕ → Bool) → MakesTrue values table numbers → ⊥) →
         IsExplained u root rules }
 {}
@@ -115,8 +114,7 @@ pub fn finished_searches_answer_first_choices<N, S>()
 pub fn cores_of_encodings_explain<N, S>()
     ensures { (u : Universe N S) (same_name : N → N → Bool) (root : Demands) (notes : Notes N S) (numbers : List ℕ) (rules : List (Rule N S)) →
         HasLawfulSolvables u → IsIdentity same_name → IsEncoding u root notes → IsCore notes.table numbers →
-        AreListed u (implied_in u same_name (kinds_at notes.kinds numbers)) (kinds_at notes.kinds numbers) rules →
-        AreStated u (implied_in u same_name (kinds_at notes.kinds numbers)) (kinds_at notes.kinds numbers) rules →
+        ListsRulesOf u same_name (kinds_at notes.kinds numbers) rules → ListsOnlyRulesOf u same_name (kinds_at notes.kinds numbers) rules →
         IsExplained u root rules }
 {}
 

@@ -6,7 +6,7 @@ ghost use Rattle.resolver_clause_store.specs.Universe.{Universe};
 ghost use Rattle.resolver_clause_store.specs.Variables.{AreFull, limit_in, origins_in};
 ghost use Rattle.resolver_clause_store.specs.declared.Helper.TheVariants.{Condition};
 ghost use Rattle.resolver_clause_store.specs.declared.Origin.TheVariants.{Helper as HelperOrigin, Solvable};
-ghost use Rattle.resolver_encoding.specs.Atoms.{atom, excluded_of as excluded_origin, origin_by, parent_of as parent_origin, wanted};
+ghost use Rattle.resolver_encoding.specs.Atoms.{atom, excluded_of as excluded_origin, origin_by, parent_of as parent_origin, requirement_atoms, wanted};
 ghost use Rattle.resolver_encoding.specs.Encodings.{Adds, Grows};
 ghost use Rattle.resolver_encoding.specs.Refusals.{IsShortage};
 ghost use Rattle.resolver_encoding.specs.Values.{AreAtoms, IsClauseOf};
@@ -109,8 +109,8 @@ fn push_requirement<N: Copy + Eq + Hash + Drop, S: Copy + Eq + Hash + Drop>(
     requires solvables { IsIdentity S.eq }
     ensures limit { limit_in variables.new ≡ limit_in variables.old }
     ensures grows { Grows (origins_in variables.old) (origins_in variables.new) }
-    ensures added { OnOk result (Adds (origins_in variables.new) literals.old.items literals.new.items (atom parent false ∷
-        (map (λ v. atom (HelperOrigin (Condition v)) false) disjunct.now ++ map (λ s. atom (Solvable s) true) candidates.now))) }
+    ensures added { OnOk result
+        (Adds (origins_in variables.new) literals.old.items literals.new.items (requirement_atoms parent disjunct.now candidates.now)) }
     ensures refusal { IfErr result (IsShortage (AreFull variables.new)) }
 {
     push_literal(variables, literals, parent, false)?;

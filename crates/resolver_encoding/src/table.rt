@@ -7,7 +7,7 @@ ghost use Rattle.resolver_clause_store.specs.Variables.{AreFull};
 ghost use Rattle.resolver_encoding.specs.Atoms.{wanted};
 ghost use Rattle.resolver_encoding.specs.Encodings.{Grows, numbers_with};
 ghost use Rattle.resolver_encoding.specs.Refusals.{IsShortage};
-ghost use Rattle.resolver_encoding.specs.Tables.{HasAdded, IsTableFull, with_number};
+ghost use Rattle.resolver_encoding.specs.Tables.{HasAdded, IsTableFull, with_clause, with_number};
 ghost use Rattle.resolver_encoding.specs.Values.{IsClauseOf};
 
 use crate::choices::{Choices, places_behind};
@@ -163,11 +163,7 @@ impl<N: Copy + Eq + Hash + Drop, S: Copy + Eq + Hash + Drop> ClauseTable<N, S> {
         literals: &[Literal],
         ends: Vec<usize>,
     ) -> Result<(), Exhausted>
-        ensures added { OnOk result (table_in self.new ≡ record (table_in self.old) {
-          literals = (table_in self.old).literals ++ literals.now ∷ [];
-          kinds = (table_in self.old).kinds ++ kind ∷ [];
-          requirements = numbers_with kind (length (table_in self.old).kinds) (table_in self.old).requirements;
-        }) }
+        ensures added { OnOk result (table_in self.new ≡ with_clause kind literals.now (table_in self.old)) }
         ensures unchanged { OnErr result (table_in self.new ≡ table_in self.old) }
         ensures variables { self.new.variables ≡ self.old.variables }
         ensures memory { IfErr result (λ e. e ≡ Exhausted.Memory) }
