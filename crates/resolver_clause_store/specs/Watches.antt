@@ -1,6 +1,6 @@
 -- The clauses that watch each literal.
 use Rattle.std.specs.Prelude.{◌≡◌, ◌≢◌, ◌⊎◌, ℕ, ◌+◌, ◌<◌, ◌==◌, ◌++◌, ◌∷◌, Bool, true, false, Some, List, [], length, All, Contains, slice_get}
-use Rattle.std.specs.Prelude.{slice_index_or, count_by, if◌then◌else◌}
+use Rattle.std.specs.Prelude.{slice_index_or, slice_set, count_by, if◌then◌else◌}
 use Rattle.resolver_clause_store.specs.Literals.{Literal, is_literal, list_number}
 use Rattle.resolver_clause_store.specs.NumberedLists.{PutsList}
 use Rattle.resolver_clause_store.specs.Formula.{clause_at}
@@ -10,6 +10,14 @@ use Rattle.resolver_clause_store.specs.declared.pairs.WatchedPair.{WatchedPair}
 -- the content of a list
 abbrev pub list_at : List (List Watch) → ℕ → List Watch
 list_at lists list = slice_index_or lists list []
+
+-- the watches of a literal
+abbrev pub watches_at : List (List Watch) → Literal → List Watch
+watches_at lists literal = list_at lists (list_number literal)
+
+-- the watch at a place of a literal's list is replaced
+abbrev pub PutsWatch : List (List Watch) → List (List Watch) → Literal → ℕ → Watch → Type 0
+PutsWatch old new literal place watch = PutsList old new (list_number literal) (slice_set (watches_at old literal) place watch)
 
 -- stands for the watch behind the end of a list
 abbrev pub no_watch : Watch
@@ -79,6 +87,17 @@ pub record FitsClause (table : List (List Literal)) (watch : Watch) : Type 0 whe
 -- each watch fits its clause
 abbrev pub FitClauses : List (List Literal) → List (List Watch) → Type 0
 FitClauses table lists = (list : ℕ) → All (λ (watch : Watch). FitsClause table watch) (list_at lists list)
+
+-- each watch still fits its clause, if the blocker stands in the clause
+abbrev pub KeepsFit : List (List Watch) → List (List Watch) → ℕ → Literal → Type 0
+KeepsFit old new number blocker =
+    (table : List (List Literal)) → Contains (clause_at table number) blocker → FitClauses table old → FitClauses table new
+
+-- the same for a new clause, if it has both literals of the pair that it watches
+abbrev pub KeepsFitWith : List (List Watch) → List (List Watch) → WatchedPair → ℕ → Bool → Type 0
+KeepsFitWith old new pair number is_binary = (table : List (List Literal)) →
+    (pair.first ≢ pair.second → Contains (clause_at table number) pair.first × Contains (clause_at table number) pair.second) →
+    (is_binary ≡ true → length (clause_at table number) ≡ 2) → FitClauses table old → FitClauses table new
 
 -- the clause watches these two literals
 abbrev pub IsPair : WatchedPair → Literal → Literal → Type 0

@@ -1,7 +1,6 @@
 //! The clauses that watch each literal.
 
-ghost use Rattle.std.specs.Prelude.{◌≡◌, ◌≢◌, ℕ, ◌+◌, ◌*◌, ◌<◌, ◌≤◌, ◌++◌, ◌∷◌, [], All, IfSome, List, MatchOption, OnErr, OnOk, Some, Vec, length, slice_get, slice_set};
-ghost use Rattle.resolver_clause_store.specs.NumberedLists.{PutsList};
+ghost use Rattle.std.specs.Prelude.{◌≡◌, ◌≢◌, ℕ, ◌+◌, ◌*◌, ◌<◌, ◌≤◌, ◌++◌, ◌∷◌, [], All, IfSome, List, MatchOption, OnErr, OnOk, Some, Vec, length, slice_get};
 ghost use Rattle.resolver_clause_store.specs.Literals.{Literal, list_number};
 ghost use Rattle.resolver_clause_store.specs.TrailView.{variable_count};
 ghost use Rattle.resolver_clause_store.specs.Unsatisfied.{IsFirstUnsatisfied, IsNextUnsatisfied};
@@ -113,9 +112,7 @@ pub struct Watches {
 }
 
 impl Watches {
-    ghost use Rattle.std.specs.Prelude.{Contains, true};
-    ghost use Rattle.resolver_clause_store.specs.Formula.{clause_at};
-    ghost use Rattle.resolver_clause_store.specs.Watches.{FitClauses, IsPair, IsWatching, MovesWatch, SameClauses, pair_at};
+    ghost use Rattle.resolver_clause_store.specs.Watches.{IsPair, IsWatching, KeepsFit, KeepsFitWith, MovesWatch, PutsWatch, SameClauses, pair_at, watches_at};
     ghost use Rattle.resolver_clause_store.specs.WatchesView.{HasList, lists_of, pairs_of};
 
     /// Returns watches without literals and clauses.
@@ -169,8 +166,8 @@ impl Watches {
     /// Returns the clause at a place of a literal's list, if the list is that long.
     pub fn placed_at(&self, literal: Literal, place: usize) -> Option<PlacedWatch>
         requires list { HasList self.now literal }
-        ensures value { MatchOption result (length (list_at (lists_of self.now) (list_number literal)) ≤ place)
-            (λ placed. (placed.place ≡ place) × (slice_get (list_at (lists_of self.now) (list_number literal)) place ≡ Some placed.watch)) }
+        ensures value { let it = watches_at (lists_of self.now) literal in
+            MatchOption result (length it ≤ place) (λ placed. (placed.place ≡ place) × (slice_get it place ≡ Some placed.watch)) }
         ensures watching { IfSome result (λ placed. IsWatching (pairs_of self.now) placed.watch.number literal) }
     {
         watch_in(self.lists.at(literal.list_number()), place)
@@ -184,11 +181,10 @@ impl Watches {
         from: usize,
     ) -> Option<PlacedWatch>
         requires list { HasList self.now literal }
-        requires from { from ≤ length (list_at (lists_of self.now) (list_number literal)) }
-        requires below { All (λ (watch : Watch). watch.blocker.variable < variable_count trail.now) (list_at (lists_of self.now) (list_number literal)) }
-        ensures value { MatchOption result
-            (IsFirstUnsatisfied trail.now (list_at (lists_of self.now) (list_number literal)) from (length (list_at (lists_of self.now) (list_number literal))))
-            (IsNextUnsatisfied trail.now (list_at (lists_of self.now) (list_number literal)) from) }
+        requires from { from ≤ length (watches_at (lists_of self.now) literal) }
+        requires below { All (λ (watch : Watch). watch.blocker.variable < variable_count trail.now) (watches_at (lists_of self.now) literal) }
+        ensures value { let it = watches_at (lists_of self.now) literal in
+            MatchOption result (IsFirstUnsatisfied trail.now it from (length it)) (IsNextUnsatisfied trail.now it from) }
         ensures watching { IfSome result (λ placed. IsWatching (pairs_of self.now) placed.watch.number literal) }
     {
         let watches = self.lists.at(literal.list_number());
@@ -203,12 +199,7 @@ impl Watches {
         ensures pairs { OnOk result (pairs_of self.new ≡ pairs_of self.old ++ pair ∷ []) }
         ensures kept { (number : ℕ) → number < length (pairs_of self.old) → pair_at (pairs_of self.new) number ≡ pair_at (pairs_of self.old) number }
         ensures size { OnOk result (length (lists_of self.new) ≡ length (lists_of self.old)) }
-        ensures fit { OnOk result
-            ((table : List (List Literal)) →
-            (pair.first ≢ pair.second → Contains (clause_at table (length (pairs_of self.old))) pair.first ×
-            Contains (clause_at table (length (pairs_of self.old))) pair.second) →
-            (is_binary ≡ true → length (clause_at table (length (pairs_of self.old))) ≡ 2) →
-            FitClauses table (lists_of self.old) → FitClauses table (lists_of self.new)) }
+        ensures fit { OnOk result (KeepsFitWith (lists_of self.old) (lists_of self.new) pair (length (pairs_of self.old)) is_binary) }
     {
         let number = narrow(self.pairs.len())?;
         self.pairs.push(pair)?;
@@ -227,13 +218,11 @@ impl Watches {
     /// Replaces the blocker of a watch.
     pub fn set_blocker(&mut self, literal: Literal, placed: &PlacedWatch, blocker: Literal)
         requires list { HasList self.old literal }
-        requires placed { slice_get (list_at (lists_of self.old) (list_number literal)) placed.now.place ≡ Some placed.now.watch }
-        ensures set { PutsList (lists_of self.old) (lists_of self.new) (list_number literal)
-            (slice_set (list_at (lists_of self.old) (list_number literal)) placed.now.place (with_blocker placed.now.watch blocker)) }
+        requires placed { slice_get (watches_at (lists_of self.old) literal) placed.now.place ≡ Some placed.now.watch }
+        ensures set { PutsWatch (lists_of self.old) (lists_of self.new) literal placed.now.place (with_blocker placed.now.watch blocker) }
         ensures same { SameClauses (lists_of self.old) (lists_of self.new) }
         ensures pairs { pairs_of self.new ≡ pairs_of self.old }
-        ensures fit { (table : List (List Literal)) → Contains (clause_at table placed.now.watch.number) blocker →
-            FitClauses table (lists_of self.old) → FitClauses table (lists_of self.new) }
+        ensures fit { KeepsFit (lists_of self.old) (lists_of self.new) placed.now.watch.number blocker }
     {
         let watch = placed.watch;
         let watch = Watch {
@@ -258,14 +247,12 @@ impl Watches {
     ) -> Result<(), AllocError>
         requires from { HasList self.old from }
         requires to { HasList self.old to }
-        requires placed { slice_get (list_at (lists_of self.old) (list_number from)) placed.now.place ≡ Some placed.now.watch }
+        requires placed { slice_get (watches_at (lists_of self.old) from) placed.now.place ≡ Some placed.now.watch }
         requires unwatched { IsWatching (pairs_of self.old) placed.now.watch.number to → ⊥ }
         ensures moved { OnOk result (MovesWatch (lists_of self.old) (lists_of self.new) (pairs_of self.old) (pairs_of self.new) from to
             placed.now.place placed.now.watch.number) }
         ensures kept { OnErr result (pairs_of self.new ≡ pairs_of self.old) }
-        ensures fit { OnOk result
-            ((table : List (List Literal)) → Contains (clause_at table placed.now.watch.number) blocker →
-            FitClauses table (lists_of self.old) → FitClauses table (lists_of self.new)) }
+        ensures fit { OnOk result (KeepsFit (lists_of self.old) (lists_of self.new) placed.now.watch.number blocker) }
     {
         let watch = placed.watch;
         let moved = Watch {
