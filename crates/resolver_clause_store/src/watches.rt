@@ -167,7 +167,7 @@ impl Watches {
     pub fn placed_at(&self, literal: Literal, place: usize) -> Option<PlacedWatch>
         requires list { HasList self.now literal }
         ensures value { let it = watches_at (lists_of self.now) literal in
-            MatchOption result (length it ≤ place) (λ placed. (placed.place ≡ place) × (slice_get it place ≡ Some placed.watch)) }
+            MatchOption result (length it ≤ place) (λ p. (p.place ≡ place) × (slice_get it place ≡ Some p.watch)) }
         ensures watching { IfSome result (λ placed. IsWatching (pairs_of self.now) placed.watch.number literal) }
     {
         watch_in(self.lists.at(literal.list_number()), place)
