@@ -8,6 +8,7 @@ ghost use Rattle.resolver_clause_store.specs.Laws.{IsIdentity};
 ghost use Rattle.resolver_clause_store.specs.Universe.{Universe};
 ghost use Rattle.resolver_clause_store.specs.declared.By.TheVariants.{Solvable as BySolvable};
 ghost use Rattle.resolver_clause_store.specs.declared.ClauseKind.TheVariants.{Constrains as ConstrainsKind, Requires as RequiresKind};
+ghost use Rattle.resolver_encoding.specs.Atoms.{Disjunct};
 ghost use Rattle.resolver_encoding.specs.Core.{ListsOnlyRulesOf, ListsRulesOf};
 ghost use Rattle.resolver_encoding.specs.Groups.{AreGroups};
 ghost use Rattle.resolver_encoding.specs.Listing.{AddsRules, HasInstances, ListsBit, SomeOf, States};
@@ -64,34 +65,32 @@ fn require_each<N: Copy + Eq + Hash + Drop, S: Copy + Eq + Hash + Drop>(
     Ok(())
 }
 
-/// Adds the requirement that a clause states; that of a gate, for each solvable that implies the gate.
-fn add_requirement<D: DependencyProvider>(
-    provider: &D,
-    cache: &mut Cache<D::NameId, D::SolvableId>,
-    sources: &Groups<Helper<D::NameId>, D::SolvableId>,
-    listing: &mut Listing<D::NameId, D::SolvableId>,
-    parent: &Option<By<D::SolvableId>>,
-    disjunct: &Vec<VersionSetId>,
-    requirement: &Requirement,
-) -> Result<(), Interrupted<D::Cancel>>
-    requires is_true { IsTrueCache (D.universe provider.now) cache.old }
+/// Adds the requirement that a clause states, with the lists of its condition; that of a gate, for each solvable that
+/// implies the gate.
+fn add_requirement<N: Copy + Eq + Hash + Drop, S: Copy + Eq + Hash + Drop>(
+    sources: &Groups<Helper<N>, S>,
+    listing: &mut Listing<N, S>,
+    parent: Option<By<S>>,
+    requirement: Requirement,
+    candidates: Vec<S>,
+    when: Vec<Vec<S>>,
+) -> Result<(), Exhausted>
+    requires names { IsIdentity N.eq }
     requires groups { AreGroups sources.now }
     requires instances { HasInstances listing.old }
-    ensures is_true { IsTrueCache (D.universe provider.now) cache.new }
-    ensures added { OnOk result (AddsRules (States (D.universe provider.now) sources.now (RequiresKind parent.now disjunct.now requirement.now))
-        listing.old listing.new) }
-    ensures refusal { IfErr result (IsInterruption (D.may_cancel provider.now)) }
+    ensures added { OnOk result ((u : Universe N S) (disjunct : Disjunct) → candidates.items ≡ candidates_of u requirement →
+        map (λ list. list.items) when.items ≡ map (matching u) disjunct.items →
+        AddsRules (States u sources.now (RequiresKind parent disjunct requirement)) listing.old listing.new) }
+    ensures memory { IfErr result (λ e. e ≡ Exhausted.Memory) }
 {
-    let candidates = requirement_candidates(cache, provider, *requirement)?;
     match parent {
         Some(by) => {
-            let when = matching_lists(listing.allocator(), provider, cache, disjunct)?;
-            listing.require(*by, *requirement, candidates, when)?;
+            listing.require(by, requirement, candidates, when)?;
             Ok(())
         }
         None => {
-            let requirers = sources.named(Helper::Gate(*requirement));
-            require_each(listing, requirers, *requirement, &candidates)?;
+            let requirers = sources.named(Helper::Gate(requirement));
+            require_each(listing, requirers, requirement, &candidates)?;
             Ok(())
         }
     }
@@ -180,11 +179,13 @@ fn add_stated<D: DependencyProvider>(
     match kind {
         ClauseKind::InstallRoot => Ok(()),
         ClauseKind::Requires {
-            parent: by,
+            parent,
             disjunct,
             requirement,
         } => {
-            add_requirement(provider, cache, sources, listing, by, disjunct, requirement)?;
+            let candidates = requirement_candidates(cache, provider, *requirement)?;
+            let when = matching_lists(listing.allocator(), provider, cache, disjunct)?;
+            add_requirement(sources, listing, *parent, *requirement, candidates, when)?;
             Ok(())
         }
         ClauseKind::Implies {
