@@ -142,18 +142,14 @@ pub(crate) fn push_atoms<N: Copy + Eq + Hash + Drop, S: Copy + Eq + Hash + Drop>
     ensures refusal { IfErr result (IsShortage (AreFull variables.new)) }
 {
     match kind {
-        ClauseKind::InstallRoot => {
-            push_literal(variables, literals, Origin::Root, true)?;
-            Ok(())
-        }
+        ClauseKind::InstallRoot => push_literal(variables, literals, Origin::Root, true),
         ClauseKind::Requires {
             parent,
             disjunct,
             requirement,
         } => {
             let parent = parent_of(*parent, *requirement);
-            push_requirement(variables, literals, parent, disjunct, candidates)?;
-            Ok(())
+            push_requirement(variables, literals, parent, disjunct, candidates)
         }
         ClauseKind::Implies {
             candidate,
@@ -161,8 +157,7 @@ pub(crate) fn push_atoms<N: Copy + Eq + Hash + Drop, S: Copy + Eq + Hash + Drop>
             value,
         } => {
             push_literal(variables, literals, Origin::Solvable(*candidate), false)?;
-            push_literal(variables, literals, Origin::Helper(*helper), *value)?;
-            Ok(())
+            push_literal(variables, literals, Origin::Helper(*helper), *value)
         }
         ClauseKind::Constrains {
             parent,
@@ -170,17 +165,14 @@ pub(crate) fn push_atoms<N: Copy + Eq + Hash + Drop, S: Copy + Eq + Hash + Drop>
             candidate,
         } => {
             let excluded = excluded_of(*candidate, *version_set);
-            push_both(variables, literals, origin_of(*parent), excluded)?;
-            Ok(())
+            push_both(variables, literals, origin_of(*parent), excluded)
         }
         ClauseKind::Lock { forbidden, .. } => {
             let forbidden = Origin::Solvable(*forbidden);
-            push_both(variables, literals, Origin::Root, forbidden)?;
-            Ok(())
+            push_both(variables, literals, Origin::Root, forbidden)
         }
         ClauseKind::Excluded { solvable, .. } => {
-            push_literal(variables, literals, Origin::Solvable(*solvable), false)?;
-            Ok(())
+            push_literal(variables, literals, Origin::Solvable(*solvable), false)
         }
     }
 }

@@ -1,52 +1,45 @@
-use Rattle.std.proofs.Common.{◌∷◌, ◌++◌, List, false, map, subst, sym, true}
-use Rattle.resolver_clause_store.specs.Variables.{origins_in}
+use Rattle.std.proofs.Common.{◌≡◌, List, [], ap, subst, sym}
+use Rattle.std.specs.Prelude.{OnOk, Result}
+use Rattle.std.proofs.lemmas.Result.{on_ok_weaker}
+use Rattle.resolver_clause_store.specs.Literals.{Literal}
+use Rattle.resolver_clause_store.specs.Universe.{Universe}
 use Rattle.resolver_clause_store.specs.declared.ClauseKind.{ClauseKind}
-use Rattle.resolver_clause_store.specs.declared.ClauseKind.TheVariants.{Requires}
-use Rattle.resolver_clause_store.specs.declared.Helper.TheVariants.{Condition}
+use Rattle.resolver_clause_store.specs.declared.Exhausted.{Exhausted}
 use Rattle.resolver_clause_store.specs.declared.Origin.{Origin}
-use Rattle.resolver_clause_store.specs.declared.Origin.TheVariants.{Helper, Solvable}
-use Rattle.resolver_clause_store.specs.declared.VersionSetId.{VersionSetId}
-use Rattle.resolver_encoding.specs.Atoms.{atom, wanted}
+use Rattle.resolver_encoding.specs.Atoms.{Atom, atoms_of, wanted}
 use Rattle.resolver_encoding.specs.Encodings.{Adds}
 use Rattle.resolver_encoding.specs.Values.{IsClauseOf}
 use Rattle.resolver_encoding.proofs.ClauseLemmas.{Adds-trans, Adds-zip}
 use Rattle.resolver_encoding.proofs.EncodingLemmas.{IsClauseOf-zip}
 use Rattle.resolver_encoding.proofs.literals.push_atoms.Goals as goal
 
-pub returns-in_ok-push_literal-in-InstallRoot-clause-clause : goal.returns-in_ok-push_literal-in-InstallRoot-clause-clause
-returns-in_ok-push_literal-in-InstallRoot-clause-clause g c = λ u are.
-    let Clause : ClauseKind g.row.N.Denot g.row.S.Denot → Type 0 =
-    λ kind. IsClauseOf u (origins_in c.push_literal.new.variables) c.push_literal.new.literals.items kind in
-    subst Clause (sym c.in-InstallRoot.is) (IsClauseOf-zip u _ _ _
-    (Adds-zip _ _ _ _ c.requires.empty c.in_ok-push_literal-in-InstallRoot.ensures.added))
+-- a list that was empty has the literals of the kind's atoms
+clause_of_added : {T N S : Type 0} (r : Result T Exhausted) (origins : List (Origin N S)) (old new : List Literal) (candidates : List S) (kind : ClauseKind N S)
+    (atoms : List (Atom N S)) → old ≡ [] → ((u : Universe N S) → candidates ≡ wanted u kind → atoms ≡ atoms_of u kind) → OnOk r (Adds origins old new atoms) →
+    OnOk r ((u : Universe N S) → candidates ≡ wanted u kind → IsClauseOf u origins new kind)
+clause_of_added {T} {N} {S} r origins old new candidates kind atoms empty same =
+    let made : Adds origins old new atoms → (u : Universe N S) → candidates ≡ wanted u kind → IsClauseOf u origins new kind =
+    λ added u are. let Made : List (Atom N S) → Type 0 = λ as'. Adds origins old new as' in
+    IsClauseOf-zip u origins new kind (Adds-zip _ _ _ _ empty (subst Made (same u are) added)) in
+    on_ok_weaker r made
 
-pub returns-in_ok-push_requirement-in-Requires-clause-clause : goal.returns-in_ok-push_requirement-in-Requires-clause-clause
-returns-in_ok-push_requirement-in-Requires-clause-clause g c = λ u are.
+pub returns-in-InstallRoot-clause-clause : goal.returns-in-InstallRoot-clause-clause
+returns-in-InstallRoot-clause-clause g c =
+    clause_of_added _ _ _ _ _ _ _ c.requires.empty (λ u are. ap (atoms_of u) (sym c.in-InstallRoot.is)) c.push_literal.ensures.added
+
+pub returns-in-Requires-clause-clause : goal.returns-in-Requires-clause-clause
+returns-in-Requires-clause-clause g c =
     let it = c.in-Requires in
-    let kind : ClauseKind g.row.N.Denot g.row.S.Denot = Requires it.parent it.disjunct it.requirement in
-    let origins = origins_in c.push_requirement.new.variables in
-    let literals = c.push_requirement.new.literals.items in
-    let Clause : ClauseKind g.row.N.Denot g.row.S.Denot → Type 0 = λ k. IsClauseOf u origins literals k in
-    let Made : Origin g.row.N.Denot g.row.S.Denot → List VersionSetId → List g.row.S.Denot → Type 0 =
-    λ parent disjunct candidates. Adds origins c.args.literals.now.items literals (atom parent false ∷
-    (map (λ v. atom (Helper (Condition v)) false) disjunct ++ map (λ s. atom (Solvable s) true) candidates)) in
-    let Wanted : ClauseKind g.row.N.Denot g.row.S.Denot → Type 0 = λ k. Made c.parent_of-parent.result it.disjunct.items (wanted u k) in
-    let listed = subst (Made c.parent_of-parent.result c.deref.result.now) are c.in_ok-push_requirement-in-Requires.ensures.added in
-    let helped = subst (λ vs. Made c.parent_of-parent.result vs (wanted u c.args.kind.now)) c.deref.ensures.value listed in
-    let made = subst (λ o. Made o it.disjunct.items (wanted u kind)) c.parent_of-parent.ensures (subst Wanted it.is helped) in
-    subst Clause (sym it.is) (IsClauseOf-zip u _ _ kind (Adds-zip _ _ _ _ c.requires.empty made))
+    clause_of_added _ _ _ _ _ _ _ c.requires.empty
+    (λ u are. rw (c.parent_of-parent.ensures, c.deref.ensures.value, are, it.is))
+    c.push_requirement.ensures.added
 
-pub returns-in_ok-push_literal-in-Implies-2-clause-clause : goal.returns-in_ok-push_literal-in-Implies-2-clause-clause
-returns-in_ok-push_literal-in-Implies-2-clause-clause g c = λ u are.
-    let Clause : ClauseKind g.row.N.Denot g.row.S.Denot → Type 0 =
-    λ kind. IsClauseOf u (origins_in c.push_literal-in-Implies-2.new.variables) c.push_literal-in-Implies-2.new.literals.items kind in
-    subst Clause (sym c.in-Implies.is) (IsClauseOf-zip u _ _ _ (Adds-zip _ _ _ _ c.requires.empty
-    (Adds-trans _ _ _ _ _ _ _ c.push_literal-in-Implies-2.ensures.grows c.in_ok-push_literal-in-Implies.ensures.added
-    c.in_ok-push_literal-in-Implies-2.ensures.added)))
+pub returns-in_ok-push_literal-in-Implies-clause-clause : goal.returns-in_ok-push_literal-in-Implies-clause-clause
+returns-in_ok-push_literal-in-Implies-clause-clause g c =
+    let r = c.push_literal-in-Implies-2 in
+    clause_of_added _ _ _ _ _ _ _ c.requires.empty (λ u are. ap (atoms_of u) (sym c.in-Implies.is))
+    (on_ok_weaker r.result (Adds-trans _ _ _ _ _ _ _ r.ensures.grows c.in_ok-push_literal-in-Implies.ensures.added) r.ensures.added)
 
-pub returns-in_ok-push_literal-in-Excluded-clause-clause : goal.returns-in_ok-push_literal-in-Excluded-clause-clause
-returns-in_ok-push_literal-in-Excluded-clause-clause g c = λ u are.
-    let Clause : ClauseKind g.row.N.Denot g.row.S.Denot → Type 0 =
-    λ kind. IsClauseOf u (origins_in c.push_literal-in-Excluded.new.variables) c.push_literal-in-Excluded.new.literals.items kind in
-    subst Clause (sym c.in-Excluded.is) (IsClauseOf-zip u _ _ _
-    (Adds-zip _ _ _ _ c.requires.empty c.in_ok-push_literal-in-Excluded.ensures.added))
+pub returns-in-Excluded-clause-clause : goal.returns-in-Excluded-clause-clause
+returns-in-Excluded-clause-clause g c =
+    clause_of_added _ _ _ _ _ _ _ c.requires.empty (λ u are. ap (atoms_of u) (sym c.in-Excluded.is)) c.push_literal-in-Excluded.ensures.added
