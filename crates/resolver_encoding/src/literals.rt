@@ -1,11 +1,9 @@
 //! The literals of a clause, by its kind.
 
-ghost use Rattle.std.specs.Prelude.{◌≡◌, [], ◌∷◌, ◌++◌, IfErr, MatchBool, OnOk, false, map, true, ⊤};
+ghost use Rattle.std.specs.Prelude.{◌≡◌, [], ◌∷◌, ◌++◌, IfErr, MatchBool, OnOk, false, true, ⊤};
 ghost use Rattle.resolver_clause_store.specs.Laws.{IsIdentity};
 ghost use Rattle.resolver_clause_store.specs.Universe.{Universe};
 ghost use Rattle.resolver_clause_store.specs.Variables.{AreFull, limit_in, origins_in};
-ghost use Rattle.resolver_clause_store.specs.declared.Helper.TheVariants.{Condition};
-ghost use Rattle.resolver_clause_store.specs.declared.Origin.TheVariants.{Helper as HelperOrigin, Solvable};
 ghost use Rattle.resolver_encoding.specs.Atoms.{atom, excluded_of as excluded_origin, origin_by, parent_of as parent_origin, requirement_atoms, wanted};
 ghost use Rattle.resolver_encoding.specs.Encodings.{Adds, Grows};
 ghost use Rattle.resolver_encoding.specs.Refusals.{IsShortage};

@@ -11,7 +11,6 @@ ghost use Rattle.std.specs.Prelude.{[], IfErr, IfOk, IfSome, IsSome, OnOk, false
 ghost use Rattle.std.specs.List.{AllZip, slice_index_or};
 ghost use Rattle.resolver_clause_store.specs.Laws.{IsIdentity};
 ghost use Rattle.resolver_clause_store.specs.Statements.{StatesTheSame};
-ghost use Rattle.resolver_clause_store.specs.Rules.{IsRefuted};
 ghost use Rattle.resolvo.specs.MarkedClauses.{VerdictIs};
 ghost use Rattle.resolvo.specs.RuleClauses.{DecideRules};
 ghost use Rattle.resolvo.specs.Minimal.{CopiesFirst, IsUnderway, LeavesInTurn, only_marked, others_of};
