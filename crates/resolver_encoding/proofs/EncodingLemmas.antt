@@ -20,7 +20,7 @@ use Rattle.resolver_clause_store.specs.Literals.{Literal}
 use Rattle.resolver_clause_store.specs.declared.Origin.{Origin}
 use Rattle.resolver_clause_store.specs.declared.Requirement.{Requirement}
 use Rattle.resolver_clause_store.specs.declared.VersionSetId.{VersionSetId}
-use Rattle.resolver_clause_store.proofs.PlaceLemmas.{Keeps-same, Keeps-trans, place_cases, place_left, place_of_member}
+use Rattle.resolver_clause_store.proofs.PlaceLemmas.{Keeps-same, Keeps-trans, place_cases, place_of_member}
 use Rattle.resolver_encoding.specs.Atoms.{Disjunct, atoms_of}
 use Rattle.resolver_encoding.specs.Called.{Call, to_ask, to_see}
 use Rattle.resolver_encoding.specs.Encodings.{AddsKind, Coding, Doing, Extends, Grows, IsAskStep}
@@ -32,7 +32,7 @@ use Rattle.resolver_encoding.specs.ReadState.{Deferred}
 use Rattle.resolver_encoding.specs.Truth.{AreDue, IsTrueClause}
 use Rattle.resolver_encoding.specs.Values.{AreEncoded, AreInOrder, IsAtom, IsClauseOf}
 use Rattle.resolver_clause_store.proofs.FormulaLemmas.{clause_at-last, clause_at-push}
-use Rattle.resolver_clause_store.proofs.ListLemmas.{Contains-at as place_in, slice_get-last as place_last}
+use Rattle.resolver_clause_store.proofs.ListLemmas.{Contains-at as place_in}
 use Rattle.resolver_encoding.proofs.ClauseLemmas.{AllZip-keeps, AreAtoms-keeps, AreAtoms-zip}
 
 pub IsWithin-same : {X : Type 0} (xs : List X) → IsWithin xs xs

@@ -1,4 +1,4 @@
-use Rattle.std.proofs.Common.{◌∙◌, sym, ap, subst, All, Contains, List, refl}
+use Rattle.std.proofs.Common.{◌∙◌, sym, ap, subst, All, Contains, List}
 use Rattle.std.specs.Prelude.{⊤}
 use Rattle.std.proofs.lemmas.List.Elements.{Contains-push}
 use Rattle.resolver_clause_store.specs.declared.ClauseKind.TheVariants.{Excluded}
