@@ -31,7 +31,7 @@ use Rattle.resolver_clause_store.specs.declared.Trail.{Trail}
 use Rattle.resolver_clause_store.specs.declared.VersionSetId.{VersionSetId}
 use Rattle.resolver_clause_store.proofs.SlotLemmas.{slot-within}
 use Rattle.resolver_encoding.specs.Atoms.{Atom, Disjunct, atom, atoms_of, parent_of}
-use Rattle.resolver_encoding.specs.Encodings.{IsRequirementKind, IsEncoding, IsLeft, Notes}
+use Rattle.resolver_encoding.specs.Encodings.{IsEncoding, IsLeft, Notes}
 use Rattle.resolver_encoding.specs.Read.{AreValuesSettled}
 use Rattle.resolver_encoding.specs.ReadState.{AreSeeds}
 use Rattle.resolver_encoding.specs.SoFar.{IsReadSoFar}
@@ -39,7 +39,8 @@ use Rattle.resolver_encoding.specs.Truth.{HasLawfulSolvables}
 use Rattle.resolver_encoding.specs.TrailAtoms.{CoversReached, IsAnswerBy, IsChosenBy, Takes, IsEntailed, IsFirstOpen, IsBecause, needed}
 use Rattle.resolver_encoding.specs.TrailAtoms.{seeded, left_out, forced, IsTrail, begun, went_on}
 use Rattle.resolver_encoding.specs.Trails.{AreAssumed, solvable_if, solvables_before, origin_at, value_of, entry_at, atoms_before, atoms_by}
-use Rattle.resolver_encoding.specs.Values.{IsAtom, AreInOrder}
+use Rattle.resolver_encoding.specs.Values.{IsAtom, requirement_numbers}
+use Rattle.resolver_encoding.proofs.NumberLemmas.{IsRequirementAt, number_of_requirement, requirement_at}
 use Rattle.std.proofs.lemmas.List.{get_or_default}
 use Rattle.std.proofs.lemmas.List.Quantifiers.{all_pairs_push}
 use Rattle.std.proofs.Common.{append-nil}
@@ -232,7 +233,7 @@ module _ {N S : Type 0} (origins : List (Origin N S)) (trail : Trail) (size : va
 
 -- the clauses of an encoding, and a finished search over them
 module _ {N S : Type 0} (u : Universe N S) (root : Demands) (notes : Notes N S) (encoding : IsEncoding u root notes) (requirements : List RequirementClause)
-    (numbers : map (λ (r : RequirementClause). r.number) requirements ≡ notes.requirements)
+    (numbers : map (λ (r : RequirementClause). r.number) requirements ≡ requirement_numbers notes.kinds)
     (trail : Trail) (size : variable_count trail ≡ length notes.origins) (finished : IsFinished notes.table requirements trail) (seeds refused : List S)
     (assumed : AreAssumed notes.origins seeds refused trail) where
   abbrev before : ℕ → List (Atom N S)
@@ -328,17 +329,13 @@ module _ {N S : Type 0} (u : Universe N S) (root : Demands) (notes : Notes N S) 
       let WithOrigin : Origin N S → Type 0 = λ p. Because x slot (atom p slot.value) in
       subst WithOrigin (sym left.is_solvable) (subst WithValue (sym left.is_true) it)
 
-  because_chosen : (x : ℕ) (slot : Slot) → slot_of trail x ≡ Some slot → (chosen : IsChosen notes.table requirements trail x slot) → (kind : ClauseKind N S) →
-      slice_get notes.kinds chosen.requirement.number ≡ Some kind → IsRequirementKind kind → Because x slot (atom (origin_at notes.origins x) slot.value)
-  because_chosen x slot at chosen kind is asks =
-      let In_order : ClauseKind N S → Type 0 = λ k. AreInOrder u notes.origins (clause_at notes.table chosen.requirement.number) k in
-      let Has : ClauseKind N S → Type 0 = λ k. Contains notes.kinds k in
-      let in_order : In_order kind = (encoding.encoded.each chosen.requirement.number kind is).in_order in
-      let inside : Has kind = Contains-at notes.kinds chosen.requirement.number kind is in
+  because_chosen : (x : ℕ) (slot : Slot) → slot_of trail x ≡ Some slot → (chosen : IsChosen notes.table requirements trail x slot) →
+      IsRequirementAt notes.kinds chosen.requirement.number → Because x slot (atom (origin_at notes.origins x) slot.value)
+  because_chosen x slot at chosen asks =
       let parent = parent_of asks.0 asks.2 in
-      let left = first_left x slot at chosen parent asks.1.items asks.2 (subst In_order asks.3 in_order) in
-      because_left x slot parent asks.1.items asks.2 left
-      (needed asks.0 asks.1 asks.2 left.s (subst Has asks.3 inside) left.parent_true left.helpers_true left.first_open)
+      let left = first_left x slot at chosen parent asks.1.items asks.2 (encoding.encoded.each chosen.requirement.number _ asks.3).in_order in
+      because_left x slot parent asks.1.items asks.2 left (needed asks.0 asks.1 asks.2 left.s
+      (Contains-at notes.kinds chosen.requirement.number _ asks.3) left.parent_true left.helpers_true left.first_open)
 
   because_assumed : (x : ℕ) (slot : Slot) → slot_of trail x ≡ Some slot → slot.reason ≡ Assumed → Because x slot (atom (origin_at notes.origins x) slot.value)
   because_assumed x slot at reason =
@@ -361,9 +358,8 @@ module _ {N S : Type 0} (u : Universe N S) (root : Demands) (notes : Notes N S) 
   because x slot at = ⊎_elim
       (λ (chosen : IsChosen notes.table requirements trail x slot).
       let Among : List ℕ → Type 0 = λ ns. Contains ns chosen.requirement.number in
-      let ask = encoding.ask chosen.requirement.number
-      (subst Among numbers (Contains-map (λ (r : RequirementClause). r.number) requirements chosen.requirement chosen.listed)) in
-      because_chosen x slot at chosen ask.0 ask.1 ask.2)
+      because_chosen x slot at chosen (requirement_at notes.kinds chosen.requirement.number
+      (subst Among numbers (Contains-map (λ (r : RequirementClause). r.number) requirements chosen.requirement chosen.listed))))
       (λ rest. ⊎_elim (λ f. because_forced x slot at f) (λ a. because_assumed x slot at a) rest)
       (finished.reasons x slot at)
 
@@ -487,7 +483,7 @@ module _ {N S : Type 0} (u : Universe N S) (root : Demands) (notes : Notes N S) 
       let vs = disjunct.items in
       let n = number_of kind inside in
       let are = (encoding.encoded.each n.0 kind n.2).atoms in
-      let listed = encoding.listed n.0 kind n.2 (who, disjunct, r, refl) in
+      let listed = number_of_requirement notes.kinds n.0 (who, disjunct, r, n.2) in
       let Among : List ℕ → Type 0 = λ ns. Contains ns n.0 in
       let w = Contains-map_back (λ (q : RequirementClause). q.number) requirements n.0 (subst Among (sym numbers) listed) in
       let Met : ℕ → Type 0 = λ m. IsMet trail (clause_at notes.table m) in
@@ -601,7 +597,7 @@ pub finished_is_valid : {N S : Type 0} (u : Universe N S) (root : Demands) (note
     HasLawfulSolvables u → HasLawfulPackages u → IsReadSoFar u root (solvables_before notes.origins trail (length_of trail)) notes →
     AreAssumed notes.origins seeds refused trail →
     AreSeeds u seeds (solvables_before notes.origins trail (length_of trail)) notes.asked notes.seen notes.exempt →
-    map (λ (r : RequirementClause). r.number) requirements ≡ notes.requirements → variable_count trail ≡ length notes.origins →
+    map (λ (r : RequirementClause). r.number) requirements ≡ requirement_numbers notes.kinds → variable_count trail ≡ length notes.origins →
     IsFinished notes.table requirements trail →
     IsAnswerBy u root (solvables_before notes.origins trail (length_of trail)) seeds notes.exempt
 finished_is_valid {N} {S} u root notes requirements trail seeds refused lawful packages so_far assumed seeded_by numbers size finished =

@@ -13,6 +13,8 @@ use Rattle.resolver_clause_store.specs.declared.RequirementClause.{RequirementCl
 use Rattle.resolver_clause_store.proofs.FormulaLemmas.{clause_at-past}
 use Rattle.resolver_clause_store.proofs.ListLemmas.{Contains-map, slice_get-inside as slice_below}
 use Rattle.resolver_encoding.specs.Encodings.{IsEncoding, Notes}
+use Rattle.resolver_encoding.specs.Values.{requirement_numbers}
+use Rattle.resolver_encoding.proofs.NumberLemmas.{requirement_at}
 
 module _ {N S : Type 0} (u : Universe N S) (root : Demands) (notes : Notes N S) (encoding : IsEncoding u root notes) where
   -- each variable of each clause has an origin
@@ -32,13 +34,12 @@ module _ {N S : Type 0} (u : Universe N S) (root : Demands) (notes : Notes N S) 
       (cases_lt number (length notes.kinds))
 
   -- each requirement clause is in the table
-  pub requirements_inside : (requirements : List RequirementClause) → map (λ (r : RequirementClause). r.number) requirements ≡ notes.requirements →
+  pub requirements_inside : (requirements : List RequirementClause) → map (λ (r : RequirementClause). r.number) requirements ≡ requirement_numbers notes.kinds →
       All (λ (r : RequirementClause). r.number < length notes.table) requirements
   requirements_inside requirements numbers = λ k d below.
       let r : RequirementClause = get_or requirements k d in
       let Has : List ℕ → Type 0 = λ ns. Contains ns r.number in
-      let listed : Contains notes.requirements r.number =
+      let listed : Contains (requirement_numbers notes.kinds) r.number =
       subst Has numbers (Contains-map (λ (q : RequirementClause). q.number) requirements r (Contains-get_or requirements k d below)) in
-      let ask = encoding.ask r.number listed in
-      let inside = slice_below notes.kinds r.number ask.0 ask.1 in
+      let inside = slice_below notes.kinds r.number _ (requirement_at notes.kinds r.number listed).3 in
       omega (arith, inside, encoding.encoded.count)

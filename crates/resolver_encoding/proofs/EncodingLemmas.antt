@@ -20,11 +20,11 @@ use Rattle.resolver_clause_store.specs.Literals.{Literal}
 use Rattle.resolver_clause_store.specs.declared.Origin.{Origin}
 use Rattle.resolver_clause_store.specs.declared.Requirement.{Requirement}
 use Rattle.resolver_clause_store.specs.declared.VersionSetId.{VersionSetId}
-use Rattle.resolver_clause_store.proofs.PlaceLemmas.{Keeps-same, Keeps-trans, place_cases, place_left, place_of_member}
+use Rattle.resolver_clause_store.proofs.PlaceLemmas.{Keeps-same, Keeps-trans, place_cases, place_of_member}
 use Rattle.resolver_encoding.specs.Atoms.{Disjunct, atoms_of}
 use Rattle.resolver_encoding.specs.Called.{Call, to_ask, to_see}
-use Rattle.resolver_encoding.specs.Encodings.{AddsKind, IsRequirementKind, Coding, Doing, Extends, Grows, IsAskStep}
-use Rattle.resolver_encoding.specs.Encodings.{IsEncodingOf, IsEncodingWhile, IsCallMade, IsGrowth, IsLeft, IsReadStep, IsStep, IsStepWhile, Notes, numbers_with, idle}
+use Rattle.resolver_encoding.specs.Encodings.{AddsKind, Coding, Doing, Extends, Grows, IsAskStep}
+use Rattle.resolver_encoding.specs.Encodings.{IsEncodingOf, IsEncodingWhile, IsCallMade, IsGrowth, IsLeft, IsReadStep, IsStep, IsStepWhile, Notes, idle}
 use Rattle.resolver_encoding.specs.Codes.{bit}
 use Rattle.resolver_encoding.specs.Groups.{IsAt}
 use Rattle.resolver_encoding.specs.Read.{HasGate, IsForbidden, forbidden_direct, forbidden_helped}
@@ -32,7 +32,7 @@ use Rattle.resolver_encoding.specs.ReadState.{Deferred}
 use Rattle.resolver_encoding.specs.Truth.{AreDue, IsTrueClause}
 use Rattle.resolver_encoding.specs.Values.{AreEncoded, AreInOrder, IsAtom, IsClauseOf}
 use Rattle.resolver_clause_store.proofs.FormulaLemmas.{clause_at-last, clause_at-push}
-use Rattle.resolver_clause_store.proofs.ListLemmas.{Contains-at as place_in, slice_get-last as place_last}
+use Rattle.resolver_clause_store.proofs.ListLemmas.{Contains-at as place_in}
 use Rattle.resolver_encoding.proofs.ClauseLemmas.{AllZip-keeps, AreAtoms-keeps, AreAtoms-zip}
 
 pub IsWithin-same : {X : Type 0} (xs : List X) → IsWithin xs xs
@@ -72,14 +72,6 @@ pub AreDistinct-none : {X : Type 0} (xs : List X) → xs ≡ [] → AreDistinct 
 AreDistinct-none {X} xs none =
     let Apart : List X → Type 0 = λ list. AreDistinct list in
     subst Apart (sym none) (record { same = λ i k x one other. absurd (omega (arith, slice_get_within [] i x one)) })
-
--- the clause is no requirement clause
-abbrev pub IsPlain : {N S : Type 0} → ClauseKind N S → Type 0
-IsPlain (Requires parent disjunct r) = ⊥
-IsPlain kind = ⊤
-
-pub asks_not : {N S : Type 0} (kind : ClauseKind N S) → IsPlain kind → IsRequirementKind kind → ⊥
-asks_not {N} {S} kind plain asks = let Plain : ClauseKind N S → Type 0 = λ k. IsPlain k in subst Plain asks.3 plain
 
 -- the literals of a clause stay those of its kind when variables are added
 AreInOrder-keeps : {N S : Type 0} (u : Universe N S) (old new : List (Origin N S)) (ls : List Literal) (kind : ClauseKind N S) → Keeps old new →
@@ -178,55 +170,13 @@ module _ {N S : Type 0} (u : Universe N S) where
     pub due : IsDue (doing.asking ++ notes.asked) notes.exempt kind
     pub prepared : IsPrepared doing notes kind
 
-  -- the numbers of the requirement clauses are listed
-  pub record AreListed (kinds : List (ClauseKind N S)) (requirements : List ℕ) : Type 0 where
-    pub listed : (n : ℕ) (kind : ClauseKind N S) → slice_get kinds n ≡ Some kind → IsRequirementKind kind → Contains requirements n
-    pub ask : (n : ℕ) → Contains requirements n → (kind : ClauseKind N S) × (slice_get kinds n ≡ Some kind) × IsRequirementKind kind
+  abbrev pub with_clause : Notes N S → List (Origin N S) → List Literal → ClauseKind N S → Notes N S
+  with_clause notes origins literals kind = record notes { origins = origins; table = notes.table ++ literals ∷ []; kinds = notes.kinds ++ kind ∷ [] }
 
-  AreListed-plain : (kinds : List (ClauseKind N S)) (requirements : List ℕ) (kind : ClauseKind N S) → (IsRequirementKind kind → ⊥) →
-      AreListed kinds requirements → AreListed (kinds ++ kind ∷ []) requirements
-  AreListed-plain kinds requirements kind plain before =
-      let Asks : ClauseKind N S → Type 0 = λ k. IsRequirementKind k in
-      record {
-        listed = λ n k at asks. ⊎_elim (λ earlier. before.listed n k earlier asks) (λ last. absurd (plain (subst Asks (sym last.1) asks)))
-            (place_cases kinds kind n k at);
-        ask = λ n h. let w = before.ask n h in (w.0, place_left kinds (kind ∷ []) n w.0 w.1, w.2);
-      }
-
-  AreListed-asking : (kinds : List (ClauseKind N S)) (requirements : List ℕ) (kind : ClauseKind N S) → IsRequirementKind kind →
-      AreListed kinds requirements → AreListed (kinds ++ kind ∷ []) (requirements ++ length kinds ∷ [])
-  AreListed-asking kinds requirements kind asking before =
-      let Has : ℕ → Type 0 = λ n. Contains (requirements ++ length kinds ∷ []) n in
-      let Stands : ℕ → Type 0 = λ n. slice_get (kinds ++ kind ∷ []) n ≡ Some kind in
-      record {
-        listed = λ n k at asks. ⊎_elim (λ earlier. Contains-append_left requirements (length kinds ∷ []) n (before.listed n k earlier asks)) (λ last.
-            subst Has (sym last.0) (Contains-push requirements (length kinds))) (place_cases kinds kind n k at);
-        ask = λ n h. ⊎_elim
-            (λ earlier. let w = before.ask n earlier in (w.0, place_left kinds (kind ∷ []) n w.0 w.1, w.2))
-            (λ e. (kind, subst Stands e (place_last kinds kind), asking))
-            (Contains-push_cases requirements (length kinds) n h);
-      }
-
-  -- they are listed after one more clause, with its number if it is a requirement clause
-  AreListed-kind : (kinds : List (ClauseKind N S)) (requirements : List ℕ) (kind : ClauseKind N S) → AreListed kinds requirements →
-      AreListed (kinds ++ kind ∷ []) (numbers_with kind (length kinds) requirements)
-  AreListed-kind kinds requirements (Requires parent disjunct r) before =
-      AreListed-asking kinds requirements (Requires parent disjunct r) (parent, disjunct, r, refl) before
-  AreListed-kind kinds requirements kind before = AreListed-plain kinds requirements kind (asks_not kind tt) before
-
-  Extends-asking : (kind : ClauseKind N S) (number : ℕ) (numbers : List ℕ) → Extends numbers (numbers_with kind number numbers)
-  Extends-asking (Requires parent disjunct r) number numbers = Extends-push numbers number
-  Extends-asking kind number numbers = Extends-same numbers
-
-  abbrev pub with_clause : Notes N S → List (Origin N S) → List ℕ → List Literal → ClauseKind N S → Notes N S
-  with_clause notes origins requirements literals kind =
-      record notes { origins = origins; requirements = requirements; table = notes.table ++ literals ∷ []; kinds = notes.kinds ++ kind ∷ [] }
-
-  IsEncoding-clause : (doing : Doing N S) (root : Demands) (notes : Notes N S) (origins : List (Origin N S)) (requirements : List ℕ)
-      (literals : List Literal) (kind : ClauseKind N S) → Grows notes.origins origins → IsClauseOf u origins literals kind →
-      AreListed (notes.kinds ++ kind ∷ []) requirements → IsNext doing root notes kind → IsEncodingWhile u doing root notes →
-      IsEncodingWhile u doing root (with_clause notes origins requirements literals kind)
-  IsEncoding-clause doing root notes origins requirements literals kind grows clause listed next before =
+  IsEncoding-clause : (doing : Doing N S) (root : Demands) (notes : Notes N S) (origins : List (Origin N S)) (literals : List Literal)
+      (kind : ClauseKind N S) → Grows notes.origins origins → IsClauseOf u origins literals kind → IsNext doing root notes kind →
+      IsEncodingWhile u doing root notes → IsEncodingWhile u doing root (with_clause notes origins literals kind)
+  IsEncoding-clause doing root notes origins literals kind grows clause next before =
       let within = IsWithin-push notes.kinds kind in
       let Prepared : ClauseKind N S → Type 0 = λ k. IsPrepared doing notes k in
       let ready : (parent : Option (By S)) (disjunct : Disjunct) (r : Requirement) → kind ≡ Requires parent disjunct r → IsReady notes disjunct.items r =
@@ -241,8 +191,6 @@ module _ {N S : Type 0} (u : Universe N S) where
             (next.is_true before.codes (record { placed = before.placed; coding = before.coding }));
         due = AreDue-push (doing.asking ++ notes.asked) notes.exempt notes.kinds kind before.due next.due;
         installs = within InstallRoot before.installs;
-        listed = listed.listed;
-        ask = listed.ask;
         helpers = λ parent disjunct r h. ⊎_elim (λ earlier. before.helpers parent disjunct r earlier) (λ e. (ready parent disjunct r e).helpers)
             (Contains-push_cases notes.kinds kind (Requires parent disjunct r) h);
         packages = λ parent disjunct r h. ⊎_elim (λ earlier. before.packages parent disjunct r earlier) (λ e. (ready parent disjunct r e).packages)
@@ -281,12 +229,9 @@ module _ {N S : Type 0} (u : Universe N S) where
   pub IsStep-clause : (doing : Doing N S) (Premise : Demands → Type 0) (old new : Notes N S) (kind : ClauseKind N S) → AddsKind u kind old new →
       ((root : Demands) → Premise root → IsEncodingWhile u doing root old → IsNext doing root old kind) → IsStepWhile u doing Premise old new
   IsStep-clause doing Premise old new kind adds next =
-      let numbers = numbers_with kind (length old.kinds) old.requirements in
       let Step : Notes N S → Type 0 = λ n. IsStepWhile u doing Premise old n in
-      let keeps : StaysRight doing Premise old (with_clause old new.origins numbers adds.literals kind) =
-      λ root premise before. IsEncoding-clause doing root old new.origins numbers adds.literals kind adds.origins adds.clause
-      (AreListed-kind old.kinds old.requirements kind (record { listed = before.listed; ask = before.ask })) (next root premise before) before in
-      let longer : Extends old.requirements numbers = Extends-asking kind (length old.kinds) old.requirements in
+      let keeps : StaysRight doing Premise old (with_clause old new.origins adds.literals kind) =
+      λ root premise before. IsEncoding-clause doing root old new.origins adds.literals kind adds.origins adds.clause (next root premise before) before in
       subst Step (sym adds.is)
       (assumption (
         IsStep-same doing Premise old,
@@ -295,7 +240,6 @@ module _ {N S : Type 0} (u : Universe N S) where
         Extends-push old.table adds.literals,
         IsWithin-push old.kinds kind,
         Extends-push old.kinds kind,
-        longer,
       ))
 
   pub clause_listed : (old new : Notes N S) (kind : ClauseKind N S) → AddsKind u kind old new → Contains new.kinds kind

@@ -1,7 +1,7 @@
 -- A solvable that is left out fits into no answer.
 use Rattle.std.proofs.Common.{◌≡◌, ℕ, List, [], ◌∷◌, ◌++◌, arith, length-append, Bool, true, false, inl, inr, refl, sym, ap, ◌∙◌, subst, ⊎_elim, Contains}
 use Rattle.std.proofs.Common.{Some}
-use Rattle.std.specs.Prelude.{map, slice_get}
+use Rattle.std.specs.Prelude.{Option, map, slice_get}
 use Rattle.std.specs.Option.{option_map_or}
 use Rattle.std.proofs.Math.ListN.{get_or-append}
 use Rattle.std.proofs.lemmas.Bool.{both_ways, false≢true}
@@ -12,16 +12,20 @@ use Rattle.resolver_clause_store.specs.Lists.{IsWithin}
 use Rattle.resolver_clause_store.specs.SoftRun.{Exempts, FitsNowhere, asked_before, not_asked}
 use Rattle.resolver_clause_store.specs.Universe.{Universe, Demands}
 use Rattle.resolver_clause_store.specs.Variables.{Keeps}
+use Rattle.resolver_clause_store.specs.declared.By.{By}
 use Rattle.resolver_clause_store.specs.declared.ClauseKind.{ClauseKind}
+use Rattle.resolver_clause_store.specs.declared.ClauseKind.TheVariants.{Requires}
+use Rattle.resolver_clause_store.specs.declared.Requirement.{Requirement}
 use Rattle.resolver_clause_store.specs.declared.Helper.TheVariants.{Condition}
 use Rattle.resolver_clause_store.specs.declared.Origin.TheVariants.{Solvable, Helper}
 use Rattle.resolver_clause_store.specs.Literals.{Literal}
 use Rattle.resolver_clause_store.specs.declared.Origin.{Origin}
-use Rattle.resolver_encoding.specs.Atoms.{Atom, atom, atoms_of, is_on, parent_of}
-use Rattle.resolver_encoding.specs.Encodings.{IsRequirementKind, Extends, IsEncoding, Notes}
+use Rattle.resolver_encoding.specs.Atoms.{Atom, Disjunct, atom, atoms_of, is_on, parent_of}
+use Rattle.resolver_encoding.specs.Encodings.{Extends, IsEncoding, Notes}
 use Rattle.resolver_encoding.specs.LeftOut.{IsLeftOut}
 use Rattle.resolver_encoding.specs.Truth.{AreDue, HasLawfulSolvables, Spares, follows}
-use Rattle.resolver_encoding.specs.Values.{extension}
+use Rattle.resolver_encoding.specs.Values.{extension, requirement_numbers}
+use Rattle.resolver_encoding.proofs.NumberLemmas.{requirement_at}
 use Rattle.resolver_encoding.proofs.Extended.{valid_satisfies}
 use Rattle.resolver_encoding.proofs.Satisfied.{has-contains}
 use Rattle.resolver_clause_store.proofs.ListLemmas.{Contains-cons_cases as cons_cases, Contains-map_back}
@@ -52,33 +56,29 @@ module _ {N S : Type 0} (u : Universe N S) where
   negative : (a b : Atom N S) → b.positive ≡ false → b ≡ a → a.positive ≡ true → ⊥
   negative a b off same on = false≢true (sym off ∙ ap (λ (c : Atom N S). c.positive) same ∙ on)
 
-  candidate_of : (kind : ClauseKind N S) → IsRequirementKind kind → (a : Atom N S) → Contains (atoms_of u kind) a → a.positive ≡ true → (s : S) ×
-      (a.origin ≡ Solvable s)
-  candidate_of kind asks a inside on =
-      let Found : Type 0 = (s : S) × (a.origin ≡ Solvable s) in
-      let Among : ClauseKind N S → Type 0 = λ k. Contains (atoms_of u k) a in
-      let helpers : List (Atom N S) = map (λ v. atom (Helper (Condition v)) false) asks.1.items in
-      let candidates : List (Atom N S) = map (λ s. atom (Solvable s) true) (requirement_candidates u asks.2) in
-      let parent : Atom N S = atom (parent_of asks.0 asks.2) false in
-      let found : Found = ⊎_elim
-      (λ e. absurd (negative a parent refl e on))
+  candidate_of : (parent : Option (By S)) (disjunct : Disjunct) (r : Requirement) (a : Atom N S) → Contains (atoms_of u (Requires parent disjunct r)) a →
+      a.positive ≡ true → (s : S) × (a.origin ≡ Solvable s)
+  candidate_of parent disjunct r a inside on =
+      let helpers : List (Atom N S) = map (λ v. atom (Helper (Condition v)) false) disjunct.items in
+      let candidates : List (Atom N S) = map (λ s. atom (Solvable s) true) (requirement_candidates u r) in
+      let from : Atom N S = atom (parent_of parent r) false in
+      ⊎_elim
+      (λ e. absurd (negative a from refl e on))
       (λ rest. ⊎_elim
-      (λ helper. let v = Contains-map_back (λ v. atom (Helper (Condition v)) false) asks.1.items a helper in
+      (λ helper. let v = Contains-map_back (λ v. atom (Helper (Condition v)) false) disjunct.items a helper in
       absurd (negative a (atom (Helper (Condition v.0)) false) refl v.2 on))
-      (λ candidate. candidate_in (requirement_candidates u asks.2) a candidate)
+      (λ candidate. candidate_in (requirement_candidates u r) a candidate)
       (Contains-append_cases helpers candidates a rest))
-      (cons_cases parent (helpers ++ candidates) a (subst Among asks.3 inside))
-      in
-      found
+      (cons_cases from (helpers ++ candidates) a inside)
 
   module _ (root : Demands) (notes : Notes N S) (encoding : IsEncoding u root notes) where
     -- a positive literal of a requirement clause stands for a candidate
-    pub asked_candidate : (number : ℕ) → Contains notes.requirements number → (l : Literal) → Contains (clause_at notes.table number) l → l.positive ≡ true →
+    pub asked_candidate : (number : ℕ) → Contains (requirement_numbers notes.kinds) number → (l : Literal) → Contains (clause_at notes.table number) l → l.positive ≡ true →
         (s : S) × (slice_get notes.origins l.variable ≡ Some (Solvable s))
     asked_candidate number listed l stands on =
-        let ask = encoding.ask number listed in
-        let a = (encoding.encoded.each number ask.0 ask.1).atoms.each_literal l stands in
-        let w = candidate_of ask.0 ask.2 a.0 a.1 (sym a.2.positive ∙ on) in
+        let at = requirement_at notes.kinds number listed in
+        let a = (encoding.encoded.each number _ at.3).atoms.each_literal l stands in
+        let w = candidate_of at.0 at.1 at.2 a.0 a.1 (sym a.2.positive ∙ on) in
         (w.0, a.2.origin ∙ ap Some w.1)
 
     -- a solvable that is left out fits into no answer with exemptions that the clauses spare

@@ -5,6 +5,7 @@ pub mod SourceLemmas
 pub mod ListingLemmas
 pub mod ClauseLemmas
 pub mod EncodingLemmas
+pub mod NumberLemmas
 pub mod RoomLemmas
 pub mod RefusalLemmas
 pub mod NoteLemmas

@@ -36,6 +36,7 @@ use Rattle.resolver_clause_store.specs.Statements.{AllMeet}
 use Rattle.resolver_encoding.specs.TrailAtoms.{IsFirstOpen, IsBecause, needed, seeded, left_out, forced, IsTrail, begun, went_on}
 use Rattle.resolver_encoding.specs.TrailAtoms.{IsChosenBy}
 use Rattle.resolver_encoding.specs.Trails.{AreAssumed, atoms_before, solvables_before}
+use Rattle.resolver_encoding.specs.Values.{requirement_numbers}
 use Rattle.resolver_encoding.specs.Truth.{AreCodes, HasLawfulSolvables, is_plain, follows, IsTrueClause, Spares}
 use Rattle.resolver_encoding.proofs.Bridge.{finished_is_valid, is_chosen, is_trail}
 use Rattle.resolver_encoding.proofs.Satisfied.{has-contains, contains-has, present, helper_meets, satisfied}
@@ -172,7 +173,7 @@ module _ {N S : Type 0} (u : Universe N S) (root : Demands) (lawful : HasLawfulS
 pub finished_is_first : {N S : Type 0} (u : Universe N S) (root : Demands) (notes : Notes N S) (requirements : List RequirementClause) (trail : Trail) →
     HasLawfulSolvables u → HasLawfulPackages u → IsReadSoFar u root (solvables_before notes.origins trail (length_of trail)) notes →
     AreAssumed notes.origins [] [] trail →
-    map (λ (r : RequirementClause). r.number) requirements ≡ notes.requirements → variable_count trail ≡ length notes.origins →
+    map (λ (r : RequirementClause). r.number) requirements ≡ requirement_numbers notes.kinds → variable_count trail ≡ length notes.origins →
     IsFinished notes.table requirements trail →
     TakesFirstChoices u root (solvables_before notes.origins trail (length_of trail))
 finished_is_first {N} {S} u root notes requirements trail lawful packages so_far assumed numbers size finished firsts promised =

@@ -27,7 +27,7 @@ use Rattle.resolver_clause_store.specs.declared.Requirement.{Requirement}
 use Rattle.resolver_clause_store.specs.declared.VersionSetId.{VersionSetId}
 use Rattle.resolver_clause_store.specs.Statements.{IsPresent}
 use Rattle.resolver_clause_store.specs.TrueRules.{demands_by}
-use Rattle.resolver_encoding.specs.Encodings.{AddsKind, IsRequirementKind, AreDemandsRead, AreNeedsRead, IsConstraintRead, IsEncoding, IsLeft}
+use Rattle.resolver_encoding.specs.Encodings.{AddsKind, AreDemandsRead, AreNeedsRead, IsConstraintRead, IsEncoding, IsLeft}
 use Rattle.resolver_encoding.specs.Encodings.{IsUnread, Notes}
 use Rattle.resolver_encoding.specs.Read.{IsForbidden}
 use Rattle.resolver_encoding.specs.ReadState.{Deferred, HasClause, has_direct, has_gate, IsRead, IsReadRequirement}
@@ -36,7 +36,7 @@ use Rattle.resolver_encoding.specs.Truth.{IsTrueClause, no_codes}
 use Rattle.resolver_encoding.specs.Values.{IsClauseOf}
 use Rattle.resolver_clause_store.specs.Formula.{clause_at}
 use Rattle.resolver_clause_store.proofs.PlaceLemmas.{place_cases}
-use Rattle.resolver_encoding.proofs.EncodingLemmas.{HasGate-within, IsForbidden-within, asks_not}
+use Rattle.resolver_encoding.proofs.EncodingLemmas.{HasGate-within, IsForbidden-within}
 use Rattle.resolver_encoding.proofs.CodeLemmas.{apart_of_digits}
 use Rattle.resolver_clause_store.proofs.ListLemmas.{Contains-cons_cases as cons_cases, Contains-here as here, Contains-none as none_in, Contains-there as there}
 use Rattle.resolver_encoding.proofs.GroupLemmas.{named_of_number as IsNamed-at}
@@ -190,9 +190,6 @@ module _ {N S : Type 0} (u : Universe N S) where
           exclusions = λ s reason h. absurd (not_there (Excluded s reason) (λ q. cc) h);
         };
         installs = here InstallRoot [];
-        listed = λ n kind at asks. let Asks : ClauseKind N S → Type 0 = λ k. IsRequirementKind k in
-            absurd (asks_not {N = N} {S = S} InstallRoot tt (subst Asks (sym (is_install n kind at).1) asks));
-        ask = λ n h. absurd (not_in old.requirements n unread.no_requirements h);
         helpers = λ parent disjunct r h. absurd (not_there (Requires parent disjunct r) (λ q. cc) h);
         packages = λ parent disjunct r h. absurd (not_there (Requires parent disjunct r) (λ q. cc) h);
         candidates = λ parent disjunct r h. absurd (not_there (Requires parent disjunct r) (λ q. cc) h);

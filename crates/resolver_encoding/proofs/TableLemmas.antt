@@ -9,7 +9,7 @@ use Rattle.resolver_clause_store.specs.Variables.{Keeps}
 use Rattle.resolver_clause_store.specs.declared.ClauseKind.{ClauseKind}
 use Rattle.resolver_clause_store.specs.Literals.{Literal}
 use Rattle.resolver_clause_store.specs.declared.Origin.{Origin}
-use Rattle.resolver_encoding.specs.Encodings.{Grows, Notes, numbers_with}
+use Rattle.resolver_encoding.specs.Encodings.{Grows, Notes}
 use Rattle.resolver_encoding.specs.Tables.{HasAdded, Table}
 use Rattle.resolver_encoding.specs.Values.{IsClauseOf}
 
@@ -19,13 +19,11 @@ pub kind_added : {N S : Type 0} (u : Universe N S) (kind : ClauseKind N S) (old 
     new ≡ record mid {
       literals = mid.literals ++ literals ∷ [];
       kinds = mid.kinds ++ kind ∷ [];
-      requirements = numbers_with kind (length mid.kinds) mid.requirements;
     } → HasAdded u kind old new
 kind_added {N} {S} u kind old mid new literals grows same clause is =
     let with_clause : Table N S → Table N S = λ t. record t {
       literals = t.literals ++ literals ∷ [];
       kinds = t.kinds ++ kind ∷ [];
-      requirements = numbers_with kind (length t.kinds) t.requirements;
     } in
     let Added : Table N S → Type 0 = λ t. HasAdded u kind old t in
     subst Added (sym (is ∙ ap with_clause same)) (record { origins = grows; literals = literals; clause = clause; is = refl })
@@ -60,7 +58,6 @@ with_table notes t = record notes {
   origins = t.origins;
   table = t.literals;
   kinds = t.kinds;
-  requirements = t.requirements;
   variable_limit = t.variable_limit;
   clause_limit = t.clause_limit;
 }

@@ -1,25 +1,25 @@
 -- Turns of soft requirements: a solvable is registered, becomes exempt, and stops being exempt.
-use Rattle.std.proofs.Common.{◌≡◌, ◌≢◌, ◌⊎◌, ℕ, length, Bool, true, false, List, [], ◌∷◌, ◌++◌, refl, sym, ap, ◌∙◌, subst, ⊎_elim, inl, inr, All, Contains}
+use Rattle.std.proofs.Common.{◌≡◌, ◌≢◌, ◌⊎◌, ℕ, Bool, true, false, List, [], ◌∷◌, ◌++◌, refl, sym, ap, ◌∙◌, subst, ⊎_elim, inl, inr, All, Contains}
 use Rattle.std.specs.Prelude.{Option, Some, ⊤}
 use Rattle.std.proofs.lemmas.Bool.{cases_Bool, true≢false}
 use Rattle.std.proofs.lemmas.List.Elements.{All-contains, Contains-append_left, Contains-push_cases}
 use Rattle.resolver_clause_store.specs.Laws.{IsIdentity}
 use Rattle.resolver_clause_store.specs.Lists.{IsWithin}
 use Rattle.resolver_clause_store.specs.Universe.{Universe, Demands}
-use Rattle.resolver_clause_store.specs.Variables.{Keeps}
 use Rattle.resolver_clause_store.specs.declared.By.TheVariants.{Root as ByRoot}
 use Rattle.resolver_clause_store.specs.declared.ClauseKind.{ClauseKind}
 use Rattle.resolver_clause_store.specs.declared.ClauseKind.TheVariants.{Lock, Excluded}
 use Rattle.resolver_clause_store.specs.declared.Origin.TheVariants.{Solvable}
 use Rattle.resolver_clause_store.specs.declared.StringId.{StringId}
-use Rattle.resolver_clause_store.proofs.PlaceLemmas.{Keeps-same}
 use Rattle.resolver_encoding.specs.Called.{AreAsked, IsAsking, IsSeeing, to_ask}
-use Rattle.resolver_encoding.specs.Encodings.{AddsKind, IsEncoding, IsEncodingWhile, IsLeft, IsStepWhile, Notes, numbers_with, idle, owing_for, IsAskStep}
+use Rattle.resolver_encoding.specs.Encodings.{AddsKind, IsAskStep, IsEncoding, IsEncodingWhile, IsGrowth, IsLeft, IsStepWhile, Notes, owing_for}
 use Rattle.resolver_encoding.specs.ReadState.{Deferred}
 use Rattle.resolver_encoding.specs.SoFar.{IsHalfRead}
 use Rattle.resolver_encoding.specs.Truth.{AreDue}
-use Rattle.resolver_encoding.specs.Turns.{AddsPlainly, AsksOnly, IsRestored, IsRegistered, IsTurnEnd, StaysRead}
-use Rattle.resolver_encoding.proofs.EncodingLemmas.{Contains-kept, IsStep-same, IsWithin-same}
+use Rattle.resolver_encoding.specs.Values.{numbers_from}
+use Rattle.resolver_encoding.specs.Turns.{AddsPlainly, AsksOnly, IsAddition, IsRestored, IsRegistered, IsTurnEnd, StaysRead}
+use Rattle.resolver_encoding.proofs.EncodingLemmas.{Contains-kept, IsGrowth-same}
+use Rattle.resolver_encoding.proofs.NumberLemmas.{plain_added}
 use Rattle.resolver_encoding.proofs.ReadLemmas.{AreDemandsRead-grown, AreNeedsRead-grown}
 use Rattle.resolver_clause_store.proofs.ListLemmas.{Contains-cons_cases as cons_cases, Contains-here as here, Contains-there as there}
 use Rattle.resolver_encoding.proofs.SoFarLemmas.{IsWithin-equal}
@@ -27,8 +27,8 @@ use Rattle.resolver_clause_store.proofs.DemandLemmas.{IsPresent-within}
 
 module _ {N S : Type 0} (u : Universe N S) where
   -- solvables that were read stay read when clauses are added, and nothing is read or deferred
-  module _ (old new : Notes N S) (origins : Keeps old.origins new.origins) (kinds : IsWithin old.kinds new.kinds) (asked_on : IsWithin old.asked new.asked)
-      (read : new.read ≡ old.read) (deferred : new.deferred ≡ old.deferred)
+  module _ (old new : Notes N S) (exempt : List S) (growth : IsGrowth (record old { exempt = exempt }) new) (plainly : AddsPlainly old new)
+      (read : new.read ≡ old.read) (deferred : new.deferred ≡ old.deferred) (by_name : new.deferred_by_name ≡ old.deferred_by_name)
       (keeps : (root : Demands) → IsEncoding u root old → IsEncoding u root new) where
     left_on : (e : Deferred S) → IsLeft old e → IsLeft new e
     left_on e h = IsWithin-equal old.deferred new.deferred deferred (Some e) h
@@ -42,31 +42,32 @@ module _ {N S : Type 0} (u : Universe N S) where
     half_on : (root : Demands) → IsHalfRead u root old → IsHalfRead u root new
     half_on root half = record {
       encoding = keeps root half.encoding;
-      root_read = AreDemandsRead-grown u old new kinds left_on asked_on ByRoot root half.root_read;
-      each_read = λ s h. AreNeedsRead-grown u old new kinds left_on asked_on s (u.needs s) (half.each_read s (read_back s h));
-      read_known = λ s h. Contains-kept old.origins new.origins origins (Solvable s) (half.read_known s (read_back s h));
+      root_read = AreDemandsRead-grown u old new growth.kinds left_on growth.asked ByRoot root half.root_read;
+      each_read = λ s h. AreNeedsRead-grown u old new growth.kinds left_on growth.asked s (u.needs s) (half.each_read s (read_back s h));
+      read_known = λ s h. Contains-kept old.origins new.origins growth.origins (Solvable s) (half.read_known s (read_back s h));
       left_read = λ e h. IsPresent-within e.by old.read new.read (IsWithin-equal old.read new.read read) (half.left_read e (left_back e h));
     }
 
-    pub StaysRead-of : StaysRead u old new
-    StaysRead-of = record {
-      half = half_on;
-      so_far = λ root set so. record {
-        half = half_on root so.half;
-        set_read = λ s h. IsWithin-equal old.read new.read read s (so.set_read s h);
-        none = record { none = λ e h met. so.none.none e (left_back e h) met };
-      };
-    }
+    pub IsAddition-of : IsAddition u old new
+    IsAddition-of =
+        let stays : StaysRead u old new = record {
+          half = half_on;
+          so_far = λ root set so. record {
+            half = half_on root so.half;
+            set_read = λ s h. IsWithin-equal old.read new.read read s (so.set_read s h);
+            none = record { none = λ e h met. so.none.none e (left_back e h) met };
+          };
+        } in
+        assumption growth
 
   pub StaysRead-same : (notes : Notes N S) → StaysRead u notes notes
   StaysRead-same notes = record { half = λ root h. h; so_far = λ root set h. h }
 
   -- a step that registered one solvable
   pub IsRegistered-of : (s : S) (old new : Notes N S) → IsAskStep u (IsSeeing s) (λ root. ⊤) old new → Contains new.seen s →
-      ((t : S) → Contains new.seen t → Contains old.seen t ⊎ (t ≡ s)) → new.requirements ≡ old.requirements → new.asked ≡ old.asked → IsRegistered u s old new
+      ((t : S) → Contains new.seen t → Contains old.seen t ⊎ (t ≡ s)) → AddsPlainly old new → new.asked ≡ old.asked → IsRegistered u s old new
   IsRegistered-of s old new step seen only plain asked =
-      let stays = StaysRead-of old new step.growth.origins step.growth.kinds step.growth.asked step.read step.deferred (λ root before.
-      step.keeps root tt before) in
+      let adds = IsAddition-of old new old.exempt step.growth plain step.read step.deferred step.deferred_by_name (λ root before. step.keeps root tt before) in
       assumption
 
   -- other exemptions for which the locks and exclusions are still due
@@ -91,10 +92,10 @@ module _ {N S : Type 0} (u : Universe N S) where
       StaysRead u old new
   StaysRead-exempting s old new unasked is =
       let Stays : Notes N S → Type 0 = λ n. StaysRead u old n in
-      subst Stays (sym is) (StaysRead-of old (record old { exempt = old.exempt ++ s ∷ [] }) (Keeps-same old.origins) (IsWithin-same old.kinds)
-      (IsWithin-same old.asked) refl refl
-      (λ root start. with_exempt root old (old.exempt ++ s ∷ []) (AreDue-exempting old.asked old.exempt old.kinds s unasked start.due) (λ t h.
-      Contains-append_left old.exempt (s ∷ []) t h) start))
+      let next : Notes N S = record old { exempt = old.exempt ++ s ∷ [] } in
+      subst Stays (sym is) (IsAddition-of old next next.exempt (IsGrowth-same next) refl refl refl refl (λ root start.
+      with_exempt root old next.exempt (AreDue-exempting old.asked old.exempt old.kinds s unasked start.due) (λ t h.
+      Contains-append_left old.exempt (s ∷ []) t h) start)).stays
 
   -- the last exempt solvable stops being exempt, and its clauses are owed
   module _ (s : S) (old : Notes N S) (shorter : List S) (last : old.exempt ≡ shorter ++ s ∷ []) where
@@ -152,9 +153,9 @@ module _ {N S : Type 0} (u : Universe N S) where
 
       pub IsTurnEnd-restored : IsStepWhile u (owing_for s) (λ root. ⊤) opened_notes new → AddsPlainly opened_notes new → IsTurnEnd u old new
       IsTurnEnd-restored step plainly =
-          let stays = StaysRead-of old new step.growth.origins step.growth.kinds step.growth.asked step.read step.deferred (λ root before.
+          let adds = IsAddition-of old new shorter step.growth plainly step.read step.deferred step.deferred_by_name (λ root before.
           owing_closed root (step.keeps root tt (owing_opened root before))) in
-          assumption
+          assumption step
 
   -- the candidates, the lock and the exclusions of a package, as they were found
   pub IsRestored-found : (s : S) (old mid new : Notes N S) (n : N) → n ≡ u.name s → IsWithin mid.kinds new.kinds → mid.exempt ≡ old.exempt →
@@ -178,34 +179,27 @@ module _ {N S : Type 0} (u : Universe N S) where
     exclusions = λ reason asked free inside. absurd (unasked asked);
   }
 
-  pub AddsPlainly-same : (notes : Notes N S) → AddsPlainly notes notes
-  AddsPlainly-same notes = record { requirements = refl; seen = refl }
-
-  pub AddsPlainly-trans : (one two three : Notes N S) → AddsPlainly one two → AddsPlainly two three → AddsPlainly one three
-  AddsPlainly-trans one two three first second = record { requirements = second.requirements ∙ first.requirements; seen = second.seen ∙ first.seen }
-
-  pub AddsPlainly-clause : (old new : Notes N S) (kind : ClauseKind N S) → ((numbers : List ℕ) → numbers_with kind (length old.kinds) numbers ≡ numbers) →
-      AddsKind u kind old new → AddsPlainly old new
-  AddsPlainly-clause old new kind plain adds = record {
-    requirements = ap (λ (n : Notes N S). n.requirements) adds.is ∙ plain old.requirements;
-    seen = ap (λ (n : Notes N S). n.seen) adds.is;
-  }
+  pub AddsPlainly-clause : (old new : Notes N S) (kind : ClauseKind N S) → ((n : ℕ) → numbers_from n (kind ∷ []) ≡ []) → AddsKind u kind old new → AddsPlainly old new
+  AddsPlainly-clause old new kind plain adds =
+      let Adds : Notes N S → Type 0 = λ n. AddsPlainly old n in
+      subst Adds (sym adds.is) (plain_added old.kinds kind plain)
 
   -- a step that asked one package
   pub AsksOnly-of : (n : N) (old new : Notes N S) → IsAskStep u (IsAsking n) (λ root. ⊤) old new → Contains new.asked n → AddsPlainly old new →
-      AsksOnly u n old new
-  AsksOnly-of n old new step here plain =
+      new.seen ≡ old.seen → AsksOnly u n old new
+  AsksOnly-of n old new step here plain seen =
       let Asked : N → Type 0 = λ m. Contains new.asked m in
       let asked : AreAsked (λ m. m ≡ n) old.asked new.asked = record {
         stays = step.growth.asked;
         only = λ m h. ⊎_elim (λ was. inl was) (λ is. inr (sym is)) (step.called (to_ask m) h);
         all = λ m is. subst Asked (sym is) here;
       } in
-      let stays = StaysRead-of old new step.growth.origins step.growth.kinds step.growth.asked step.read step.deferred (λ root before. step.keeps root tt before) in
+      let adds = IsAddition-of old new old.exempt step.growth plain step.read step.deferred step.deferred_by_name (λ root before. step.keeps root tt before) in
       assumption
 
   pub AsksOnly-same : (n : N) (notes : Notes N S) → Contains notes.asked n → AsksOnly u n notes notes
   AsksOnly-same n notes here =
       let Asked : N → Type 0 = λ m. Contains notes.asked m in
       let asked : AreAsked (λ m. m ≡ n) notes.asked notes.asked = record { stays = λ m h. h; only = λ m h. inl h; all = λ m is. subst Asked (sym is) here } in
-      assumption (IsStep-same u idle (λ root. ⊤) notes, StaysRead-same notes)
+      let adds = IsAddition-of notes notes notes.exempt (IsGrowth-same notes) refl refl refl refl (λ root h. h) in
+      assumption

@@ -31,8 +31,7 @@ use Rattle.resolver_encoding.specs.Truth.{AreCodes, AreDue, IsTrueClause}
 use Rattle.resolver_encoding.specs.Values.{AreEncoded, IsAtom, IsClauseOf}
 use Rattle.resolver_encoding.specs.declared.groups.Groups.{Groups}
 
--- The view of an encoding: the origin of each variable; the literals and the kind of each clause; the numbers of the
--- requirement clauses; the registered candidates, and the same by package name; the packages that were asked; the
+-- The view of an encoding: the origin of each variable; the literals and the kind of each clause; the registered candidates, and the same by package name; the packages that were asked; the
 -- version sets of conditions whose helpers have their clauses; the requirements that have a gate; the version sets of
 -- constraints whose helpers have their clauses; the solvables that were read; the deferred disjuncts, with `None` in
 -- the place of each that was removed; their numbers, by the package names of their version sets; the exempt solvables;
@@ -41,7 +40,6 @@ pub record Notes (N S : Type 0) : Type 0 where
   pub origins : List (Origin N S)
   pub table : List (List Literal)
   pub kinds : List (ClauseKind N S)
-  pub requirements : List ℕ
   pub seen : List S
   pub groups : Groups N S
   pub asked : List N
@@ -68,10 +66,6 @@ IsTrueUnder u e root = (r : ConditionalRequirement) × Contains (demands_by u ro
 pub record IsTrueEntry {N S : Type 0} (u : Universe N S) (root : Demands) (e : Deferred S) : Type 0 where
   pub is_true : IsTrueUnder u e root
   pub once : AreDistinct e.disjunct
-
--- the clause is a requirement clause
-abbrev pub IsRequirementKind : {N S : Type 0} → ClauseKind N S → Type 0
-IsRequirementKind {N} {S} kind = (parent : Option (By S)) × (disjunct : Disjunct) × (r : Requirement) × (kind ≡ Requires parent disjunct r)
 
 -- a solvable that is getting the clauses of its code: it will have this number under its name
 pub record Coding (N S : Type 0) : Type 0 where
@@ -109,9 +103,6 @@ pub record IsEncodingWhile {N S : Type 0} (u : Universe N S) (doing : Doing N S)
   pub each_true : All (IsTrueClause u codes root) notes.kinds
   pub due : AreDue u (doing.asking ++ notes.asked) notes.exempt notes.kinds
   pub installs : Contains notes.kinds InstallRoot
-  -- the listed numbers are exactly those of the requirement clauses
-  pub listed : (n : ℕ) (kind : ClauseKind N S) → slice_get notes.kinds n ≡ Some kind → IsRequirementKind kind → Contains notes.requirements n
-  pub ask : (n : ℕ) → Contains notes.requirements n → (kind : ClauseKind N S) × (slice_get notes.kinds n ≡ Some kind) × IsRequirementKind kind
   -- for each requirement clause
   pub helpers : (parent : Option (By S)) (disjunct : Disjunct) (r : Requirement) → Contains notes.kinds (Requires parent disjunct r) → (v : VersionSetId) →
       Contains disjunct.items v → Contains notes.helped v
@@ -177,7 +168,6 @@ pub record IsGrowth {N S : Type 0} (old new : Notes N S) : Type 0 where
   pub table : Extends old.table new.table
   pub kinds : IsWithin old.kinds new.kinds
   pub numbered : Extends old.kinds new.kinds
-  pub requirements : Extends old.requirements new.requirements
   pub seen : Extends old.seen new.seen
   pub asked : IsWithin old.asked new.asked
   pub exempt : new.exempt ≡ old.exempt
@@ -239,7 +229,6 @@ pub record IsUnread {N S : Type 0} (notes : Notes N S) : Type 0 where
   pub no_origins : notes.origins ≡ []
   pub no_table : notes.table ≡ []
   pub no_kinds : notes.kinds ≡ []
-  pub no_requirements : notes.requirements ≡ []
   pub none_seen : notes.seen ≡ []
   pub sound_groups : AreGroups notes.groups
   pub no_groups : (n : N) (s : S) → IsInGroup notes.groups n s → ⊥
@@ -262,11 +251,6 @@ pub record Grows {N S : Type 0} (old new : List (Origin N S)) : Type 0 where
   pub keeps : Keeps old new
   pub distinct : AreDistinct old → AreDistinct new
 
--- the numbers of the requirement clauses, after one more clause was added
-abbrev pub numbers_with : {N S : Type 0} → ClauseKind N S → ℕ → List ℕ → List ℕ
-numbers_with (Requires parent disjunct r) number numbers = numbers ++ number ∷ []
-numbers_with kind number numbers = numbers
-
 -- one more clause was added, with the literals of its kind
 pub record AddsKind {N S : Type 0} (u : Universe N S) (kind : ClauseKind N S) (old new : Notes N S) : Type 0 where
   pub origins : Grows old.origins new.origins
@@ -276,7 +260,6 @@ pub record AddsKind {N S : Type 0} (u : Universe N S) (kind : ClauseKind N S) (o
     origins = new.origins;
     table = old.table ++ literals ∷ [];
     kinds = old.kinds ++ kind ∷ [];
-    requirements = numbers_with kind (length old.kinds) old.requirements;
   }
 
 -- what it means that requirements, constraints and demands were read
@@ -319,12 +302,6 @@ IsLockRead kinds exempt (Some t) listed = All (λ s. s ≢ t → (Contains exemp
 abbrev pub AreDisjuncts : {N S : Type 0} → Universe N S → Option ConditionId → List (List VersionSetId) → Type 0
 AreDisjuncts u None lists = lists ≡ [] ∷ []
 AreDisjuncts u (Some c) lists = IsDisjunctive u c lists
-
--- the list is a disjunct of the condition
-pub record IsDisjunctOf {N S : Type 0} (u : Universe N S) (c : Option ConditionId) (disjunct : List VersionSetId) : Type 0 where
-  pub lists : List (List VersionSetId)
-  pub are : AreDisjuncts u c lists
-  pub listed : Contains lists disjunct
 
 -- the root or the solvable has the requirement; or the constraint
 abbrev pub HasRequirement : {N S : Type 0} → Universe N S → By S → ConditionalRequirement → Demands → Type 0

@@ -5,7 +5,6 @@ use Rattle.resolver_clause_store.specs.Caches.{IsTrueCache}
 use Rattle.resolver_clause_store.specs.Universe.{Universe}
 use Rattle.resolver_clause_store.specs.Variables.{limit_in, origins_in}
 use Rattle.resolver_clause_store.specs.declared.Cache.{Cache}
-use Rattle.resolver_clause_store.specs.declared.RequirementClause.{RequirementClause}
 use Rattle.resolver_clause_store.specs.declared.UnionEnds.{UnionEnds}
 use Rattle.resolver_encoding.specs.Encodings.{Notes}
 use Rattle.resolver_encoding.specs.ReadState.{Deferred}
@@ -21,8 +20,7 @@ abbrev pub table_in : {N S : Type 0} → ClauseTable N S → Table N S
 table_in t = record {
   origins = origins_in t.variables;
   literals = t.literals;
-  kinds = t.kinds.items;
-  requirements = map (λ (r : RequirementClause). r.number) t.requirements.items;
+  kinds = t.kinds;
   variable_limit = limit_in t.variables;
   clause_limit = t.clause_limit;
 }
@@ -31,8 +29,7 @@ abbrev pub notes_in : {N S : Type 0} → Encoding N S → Notes N S
 notes_in e = record {
   origins = origins_in e.table.variables;
   table = e.table.literals;
-  kinds = e.table.kinds.items;
-  requirements = map (λ (r : RequirementClause). r.number) e.table.requirements.items;
+  kinds = e.table.kinds;
   seen = e.seen.keys;
   groups = e.groups;
   asked = e.asked.keys;

@@ -1,28 +1,20 @@
 -- Tables of clauses, and the step that adds a clause.
-use Rattle.std.specs.Prelude.{ℕ, ◌≡◌, ◌⊎◌, List, [], ◌∷◌, ◌++◌, Option, Some, None, length}
+use Rattle.std.specs.Prelude.{ℕ, ◌≡◌, ◌⊎◌, List, [], ◌∷◌, ◌++◌, length}
 use Rattle.resolver_clause_store.specs.Universe.{Universe}
 use Rattle.resolver_clause_store.specs.Variables.{AreDistinct}
 use Rattle.resolver_clause_store.specs.declared.ClauseKind.{ClauseKind}
 use Rattle.resolver_clause_store.specs.Literals.{Literal}
 use Rattle.resolver_clause_store.specs.declared.Origin.{Origin}
-use Rattle.resolver_clause_store.specs.declared.RequirementClause.{RequirementClause}
-use Rattle.resolver_encoding.specs.Encodings.{Grows, numbers_with}
+use Rattle.resolver_encoding.specs.Encodings.{Grows}
 use Rattle.resolver_encoding.specs.Values.{IsClauseOf}
 
--- the origin of each variable; the literals and the kind of each clause; the numbers of the requirement clauses; and the
--- limits of variables and clauses
+-- the origin of each variable; the literals and the kind of each clause; and the limits of variables and clauses
 pub record Table (N S : Type 0) : Type 0 where
   pub origins : List (Origin N S)
   pub literals : List (List Literal)
   pub kinds : List (ClauseKind N S)
-  pub requirements : List ℕ
   pub variable_limit : ℕ
   pub clause_limit : ℕ
-
--- the numbers of the requirement clauses, with the number of the new clause if it is one
-abbrev pub with_number : List ℕ → Option RequirementClause → List ℕ
-with_number numbers None = numbers
-with_number numbers (Some clause) = numbers ++ clause.number ∷ []
 
 -- the table has as many variables, no two alike, or as many clauses, as its limit
 abbrev pub IsTableFull : {N S : Type 0} → Table N S → Type 0
@@ -33,7 +25,6 @@ abbrev pub with_clause : {N S : Type 0} → ClauseKind N S → List Literal → 
 with_clause kind literals t = record t {
   literals = t.literals ++ literals ∷ [];
   kinds = t.kinds ++ kind ∷ [];
-  requirements = numbers_with kind (length t.kinds) t.requirements;
 }
 
 -- one more clause was added, with the literals of its kind

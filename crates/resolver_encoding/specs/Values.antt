@@ -1,5 +1,5 @@
 -- Clauses as lists of literals, compared with their kinds.
-use Rattle.std.specs.Prelude.{◌≡◌, ℕ, Bool, false, List, Some, Contains, length, map, slice_get, slice_index_or, ⊤}
+use Rattle.std.specs.Prelude.{◌≡◌, ◌+◌, ℕ, Bool, false, List, [], ◌∷◌, Some, Contains, length, map, slice_get, slice_index_or, ⊤}
 use Rattle.std.specs.List.{AllZip}
 use Rattle.std.specs.Option.{option_map_or}
 use Rattle.resolver_clause_store.specs.Formula.{clause_at}
@@ -44,3 +44,13 @@ extension u implies origins set variable = option_map_or (is_on u implies set) (
 -- the kinds of the clauses with these numbers
 abbrev pub kinds_at : {N S : Type 0} → List (ClauseKind N S) → List ℕ → List (ClauseKind N S)
 kinds_at kinds numbers = map (λ n. slice_index_or kinds n InstallRoot) numbers
+
+-- the numbers of the requirement clauses among clauses of these kinds, numbered from here on
+abbrev pub numbers_from : {N S : Type 0} → ℕ → List (ClauseKind N S) → List ℕ
+numbers_from number [] = []
+numbers_from number (Requires parent disjunct r ∷ kinds) = number ∷ numbers_from (number + 1) kinds
+numbers_from number (kind ∷ kinds) = numbers_from (number + 1) kinds
+
+-- the numbers of the requirement clauses
+abbrev pub requirement_numbers : {N S : Type 0} → List (ClauseKind N S) → List ℕ
+requirement_numbers kinds = numbers_from 0 kinds

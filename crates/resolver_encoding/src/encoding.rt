@@ -10,7 +10,7 @@ ghost use Rattle.resolver_encoding.specs.Atoms.{wanted};
 ghost use Rattle.resolver_encoding.specs.Core.{ListsOnlyRulesOf, ListsRulesOf};
 ghost use Rattle.resolver_encoding.specs.Encodings.{AddsKind, IsFull, IsUnread};
 ghost use Rattle.resolver_encoding.specs.Refusals.{IsShortage};
-ghost use Rattle.resolver_encoding.specs.Values.{kinds_at};
+ghost use Rattle.resolver_encoding.specs.Values.{kinds_at, requirement_numbers};
 
 mod candidates;
 mod constraints;
@@ -148,7 +148,7 @@ impl<N: Copy + Eq + Hash + Drop, S: Copy + Eq + Hash + Drop> Encoding<N, S> {
 
     /// Returns the requirement clauses, in the order of their numbers.
     pub fn requirements(&self) -> &[RequirementClause]
-        ensures { map (λ r. r.number) result.now ≡ (notes_in self.now).requirements }
+        ensures { map (λ r. r.number) result.now ≡ requirement_numbers (notes_in self.now).kinds }
     {
         self.table.requirements()
     }

@@ -26,7 +26,7 @@ ghost use Rattle.resolver_encoding.specs.Read.{AreValuesSettled};
 ghost use Rattle.resolver_encoding.specs.ReadState.{AreSeeds, Deferred, IsRead, NoneFires};
 ghost use Rattle.resolver_encoding.specs.TrailAtoms.{CoversReached, IsAnswerBy, IsChosenBy, IsTrail, Takes};
 ghost use Rattle.resolver_encoding.specs.Truth.{HasLawfulSolvables, AreCodes, IsTrueClause, Spares, follows};
-ghost use Rattle.resolver_encoding.specs.Values.{AreEncoded, extension, kinds_at};
+ghost use Rattle.resolver_encoding.specs.Values.{AreEncoded, extension, kinds_at, requirement_numbers};
 
 /// The extension of a valid set satisfies every clause of an encoding. Exempt may be what is exempt now, and any other
 /// solvable of a package that was not asked.
@@ -90,7 +90,7 @@ pub fn finished_searches_are_answers<N, S>()
         HasLawfulSolvables u → HasLawfulPackages u → IsReadSoFar u root (solvables_before notes.origins trail (length_of trail)) notes →
         AreAssumed notes.origins seeds refused trail →
         AreSeeds u seeds (solvables_before notes.origins trail (length_of trail)) notes.asked notes.seen notes.exempt →
-        map (λ r. r.number) requirements ≡ notes.requirements → variable_count trail ≡ length notes.origins → IsFinished notes.table requirements trail →
+        map (λ r. r.number) requirements ≡ requirement_numbers notes.kinds → variable_count trail ≡ length notes.origins → IsFinished notes.table requirements trail →
         IsAnswerBy u root (solvables_before notes.origins trail (length_of trail)) seeds notes.exempt }
     ensures once { (origins : List (Origin N S)) (trail : Trail) → AreDistinct origins → variable_count trail ≡ length origins →
         HasNoRepeats (solvables_before origins trail (length_of trail)) }
@@ -104,7 +104,7 @@ pub fn finished_searches_answer_first_choices<N, S>()
     ensures { (u : Universe N S) (root : Demands) (notes : Notes N S) (requirements : List RequirementClause) (trail : Trail) →
         HasLawfulSolvables u → HasLawfulPackages u → IsReadSoFar u root (solvables_before notes.origins trail (length_of trail)) notes →
         AreAssumed notes.origins [] [] trail →
-        map (λ r. r.number) requirements ≡ notes.requirements → variable_count trail ≡ length notes.origins → IsFinished notes.table requirements trail →
+        map (λ r. r.number) requirements ≡ requirement_numbers notes.kinds → variable_count trail ≡ length notes.origins → IsFinished notes.table requirements trail →
         TakesFirstChoices u root (solvables_before notes.origins trail (length_of trail)) }
 {}
 

@@ -9,6 +9,7 @@ mod disjuncts;
 mod encoding;
 mod explain;
 mod groups;
+mod kinds;
 mod laws;
 mod listing;
 mod literals;

@@ -1,19 +1,20 @@
 //! The table of clauses, each of which is added by its kind.
 
-ghost use Rattle.std.specs.Prelude.{◌≡◌, ◌<◌, ◌≤◌, ◌^◌, ◌⊎◌, [], ◌∷◌, ◌++◌, ℕ, All, IfErr, List, OnErr, OnOk, length, map};
+ghost use Rattle.std.specs.Prelude.{◌≡◌, ◌<◌, ◌≤◌, ◌^◌, ◌⊎◌, [], All, IfErr, OnErr, OnOk, map};
 ghost use Rattle.resolver_clause_store.specs.Laws.{IsIdentity};
 ghost use Rattle.resolver_clause_store.specs.Universe.{Universe};
 ghost use Rattle.resolver_clause_store.specs.Variables.{AreFull};
 ghost use Rattle.resolver_encoding.specs.Atoms.{wanted};
-ghost use Rattle.resolver_encoding.specs.Encodings.{Grows, numbers_with};
+ghost use Rattle.resolver_encoding.specs.Encodings.{Grows};
 ghost use Rattle.resolver_encoding.specs.Refusals.{IsShortage};
-ghost use Rattle.resolver_encoding.specs.Tables.{HasAdded, IsTableFull, with_clause, with_number};
-ghost use Rattle.resolver_encoding.specs.Values.{IsClauseOf};
+ghost use Rattle.resolver_encoding.specs.Tables.{HasAdded, IsTableFull, with_clause};
+ghost use Rattle.resolver_encoding.specs.Values.{IsClauseOf, requirement_numbers};
 
 use crate::choices::{Choices, places_behind};
+use crate::kinds::Kinds;
 use crate::literals::push_atoms;
 use resolver_clause_store::{
-    By, ClauseKind, Clauses, Exhausted, Literal, RequirementClause, UnionEnds, Variables, narrow,
+    ClauseKind, Clauses, Exhausted, Literal, RequirementClause, UnionEnds, Variables, narrow,
 };
 use std::alloc::Global;
 use std::hash::Hash;
@@ -25,30 +26,11 @@ use std::hash::Hash;
 pub(crate) struct ClauseTable<N: Copy + Eq + Hash + Drop, S: Copy + Eq + Hash + Drop> {
     alloc: Global,
     pub(crate) variables: Variables<N, S>,
-    kinds: Vec<ClauseKind<N, S>>,
+    kinds: Kinds<N, S>,
     literals: Clauses,
-    requirements: Vec<RequirementClause>,
     /// For the unions among the requirement clauses, by the numbers of the clauses.
     union_ends: UnionEnds,
     clause_limit: usize,
-}
-
-/// Returns the entry of a requirement clause, or `None` for a clause of another kind.
-fn listing_of<N, S>(
-    kind: &ClauseKind<N, S>,
-    number: u32,
-    is_union: bool,
-) -> Option<RequirementClause>
-    ensures { (numbers : List ℕ) → numbers_with kind.now number numbers ≡ with_number numbers result }
-{
-    match kind {
-        ClauseKind::Requires { parent, .. } => Some(RequirementClause {
-            number,
-            of_root: matches!(parent, Some(By::Root)),
-            is_union,
-        }),
-        _ => None,
-    }
 }
 
 impl<N: Copy + Eq + Hash + Drop, S: Copy + Eq + Hash + Drop> ClauseTable<N, S> {
@@ -60,16 +42,14 @@ impl<N: Copy + Eq + Hash + Drop, S: Copy + Eq + Hash + Drop> ClauseTable<N, S> {
         ensures no_origins { (table_in result).origins ≡ [] }
         ensures no_literals { (table_in result).literals ≡ [] }
         ensures no_kinds { (table_in result).kinds ≡ [] }
-        ensures no_requirements { (table_in result).requirements ≡ [] }
         ensures variables { (table_in result).variable_limit ≡ variable_limit }
         ensures clauses { (table_in result).clause_limit ≡ clause_limit }
     {
         ClauseTable {
             alloc,
             variables: Variables::new(alloc, variable_limit),
-            kinds: Vec::new(alloc),
+            kinds: Kinds::new(alloc),
             literals: Clauses::new(alloc),
-            requirements: Vec::new(alloc),
             union_ends: UnionEnds::new(alloc),
             clause_limit,
         }
@@ -95,7 +75,7 @@ impl<N: Copy + Eq + Hash + Drop, S: Copy + Eq + Hash + Drop> ClauseTable<N, S> {
         ensures clauses { (table_in self.new).clause_limit ≡ (table_in self.old).clause_limit }
         ensures refusal { IfErr result (IsShortage (IsTableFull (table_in self.new))) }
     {
-        if self.kinds.len() == self.clause_limit {
+        if self.kinds().len() == self.clause_limit {
             return Err(Exhausted::Ids);
         }
         let count = self.variables.len();
@@ -168,58 +148,21 @@ impl<N: Copy + Eq + Hash + Drop, S: Copy + Eq + Hash + Drop> ClauseTable<N, S> {
         ensures variables { self.new.variables ≡ self.old.variables }
         ensures memory { IfErr result (λ e. e ≡ Exhausted.Memory) }
     {
-        let number = narrow(self.kinds.len())?;
         let is_union = !ends.is_empty();
         if is_union {
+            let number = narrow(self.kinds().len())?;
             self.union_ends.note(number, ends)?;
         }
-        match listing_of(&kind, number, is_union) {
-            None => {
-                self.put_literals(kind, literals)?;
-                Ok(())
-            }
-            Some(clause) => {
-                self.requirements.push(clause)?;
-                match self.put_literals(kind, literals) {
-                    Ok(()) => Ok(()),
-                    Err(_) => {
-                        self.requirements.pop();
-                        Err(Exhausted::Memory)
-                    }
-                }
-            }
-        }
-    }
-
-    /// Appends a kind and its literals. An error changes nothing.
-    fn put_literals(
-        &mut self,
-        kind: ClauseKind<N, S>,
-        literals: &[Literal],
-    ) -> Result<(), Exhausted>
-        ensures kinds { OnOk result (self.new.kinds.items ≡ self.old.kinds.items ++ kind ∷ []) }
-        ensures literals { OnOk result (self.new.literals ≡ self.old.literals ++ literals.now ∷ []) }
-        ensures unchanged { OnErr result (table_in self.new ≡ table_in self.old) }
-        ensures variables { self.new.variables ≡ self.old.variables }
-        ensures requirements { self.new.requirements ≡ self.old.requirements }
-        ensures clauses { self.new.clause_limit ≡ self.old.clause_limit }
-        ensures memory { IfErr result (λ e. e ≡ Exhausted.Memory) }
-    {
-        self.kinds.push(kind)?;
-        match self.literals.push(literals) {
-            Ok(()) => Ok(()),
-            Err(_) => {
-                self.kinds.pop();
-                Err(Exhausted::Memory)
-            }
-        }
+        self.kinds
+            .push(&mut self.literals, kind, literals, is_union)?;
+        Ok(())
     }
 
     /// Returns the kinds of the clauses, by their numbers.
     pub(crate) fn kinds(&self) -> &[ClauseKind<N, S>]
         ensures { result.now ≡ (table_in self.now).kinds }
     {
-        &self.kinds
+        self.kinds.as_slice()
     }
 
     /// Returns the literals of the clauses, by their numbers.
@@ -231,9 +174,9 @@ impl<N: Copy + Eq + Hash + Drop, S: Copy + Eq + Hash + Drop> ClauseTable<N, S> {
 
     /// Returns the requirement clauses, in the order of their numbers.
     pub(crate) fn requirements(&self) -> &[RequirementClause]
-        ensures { map (λ r. r.number) result.now ≡ (table_in self.now).requirements }
+        ensures { map (λ r. r.number) result.now ≡ requirement_numbers (table_in self.now).kinds }
     {
-        &self.requirements
+        self.kinds.requirements()
     }
 
     /// Returns the places where the candidates of each version set end, for the unions among the requirement clauses, by

@@ -1,7 +1,6 @@
 -- The turns of soft requirements.
-use Rattle.std.proofs.Common.{◌≡◌, ℕ, ◌<◌, ◌≤◌, ◌⊎◌, List, [], rules, true, false, length, take, arith, inl, inr}
+use Rattle.std.proofs.Common.{◌≡◌, ℕ, ◌<◌, ◌≤◌, ◌⊎◌, List, [], ◌∷◌, rules, true, false, length, take, arith, inl, inr}
 use Rattle.std.proofs.Common.{refl, sym, ap, ◌∙◌, subst, ⊎_elim, All, Contains, get_or, Some}
-use Rattle.std.specs.Prelude.{map}
 use Rattle.std.specs.Option.{option_map, option_map_or}
 use Rattle.resolver_clause_store.specs.FirstChoice.{TakesFirstChoices}
 use Rattle.resolver_clause_store.specs.Laws.{HasLawfulPackages}
@@ -34,11 +33,12 @@ use Rattle.resolver_encoding.specs.ReadState.{AreSeeds}
 use Rattle.resolver_encoding.specs.SoFar.{IsReadMore, IsReadSoFar}
 use Rattle.resolver_encoding.specs.TrailAtoms.{IsAnswerBy}
 use Rattle.resolver_encoding.specs.Truth.{HasLawfulSolvables}
+use Rattle.resolver_encoding.specs.Values.{requirement_numbers}
 use Rattle.resolver_encoding.proofs.Bridge.{before-back, chosen_once, finished_is_valid, true_before}
 use Rattle.resolver_encoding.proofs.PromiseLemmas.{finished_is_first}
 use Rattle.resolver_encoding.proofs.TrailLemmas.{same_before, same_origin}
 use Rattle.resolvo.specs.ClauseSearches.{IsConsistent, IsLoaded, KeepsTurn, SetsNone, StaysBookmarked, held_of, kept_of}
-use Rattle.resolvo.specs.ClauseSearches.{trail_of}
+use Rattle.resolvo.specs.ClauseSearches.{numbers_of, trail_of}
 use Rattle.resolvo.specs.RoundStates.{AreRounds, GoesOn, HasFollowed, IsAnswering, IsFollowingFrom, IsSearchOf, IsStill, IsUpToDate, KeepsNear}
 use Rattle.resolvo.specs.RoundStates.{chosen_of, notes_of}
 use Rattle.resolvo.specs.declared.clause_search.ClauseSearch.{ClauseSearch}
@@ -69,6 +69,12 @@ drawn_or_assumed it given numbers consistent loaded variable slot at = ⊎_elim
     (λ (is : slot.reason ≡ Assumed). inl is)
     (λ (not : slot.reason ≡ Assumed → ⊥). inr (values_drawn it given numbers consistent loaded variable slot at not))
     (assumed_or_not slot.reason)
+
+-- there are requirement clauses with these numbers
+clauses_numbered : (numbers : List ℕ) → (requirements : List RequirementClause) × (numbers_of requirements ≡ numbers)
+clauses_numbered [] = ([], refl)
+clauses_numbered (n ∷ numbers) =
+    let w = clauses_numbered numbers in (record { number = n; of_root = false; is_union = false } ∷ w.0, ap (λ list. n ∷ list) w.1)
 
 module _ {N S : Type 0} where
   -- loading leaves the held entries
@@ -216,18 +222,20 @@ module _ {N S : Type 0} where
         }
 
   -- the chosen solvables are an answer if a finished search left nothing to read
-  pub answering : (u : Universe N S) (old new : Rounds N S) (requirements : List RequirementClause) → HasLawfulSolvables u → HasLawfulPackages u →
+  pub answering : (u : Universe N S) (old new : Rounds N S) → HasLawfulSolvables u → HasLawfulPackages u →
       IsUpToDate old → AreRounds u old → HasFollowed old new → notes_of new ≡ notes_of old → kept_of new.search ≡ length_of (trail_of new.search) →
-      map (λ (r : RequirementClause). r.number) requirements ≡ (notes_of old).requirements →
-      IsFinished (notes_of old).table requirements (trail_of old.search) → IsAnswering u new
-  answering u old new requirements lawful packages up rounds followed same bookmarked numbers finished =
+      ((requirements : List RequirementClause) → numbers_of requirements ≡ requirement_numbers (notes_of old).kinds →
+        IsFinished (notes_of old).table requirements (trail_of old.search)) → IsAnswering u new
+  answering u old new lawful packages up rounds followed same bookmarked ends =
+      let w = clauses_numbered (requirement_numbers (notes_of old).kinds) in
+      let finished = ends w.0 w.1 in
       let With : Notes N S → Trail → List S → Type 0 = λ notes trail chosen. (root : Demands) (seeds refused : List S) → IsReadSoFar u root chosen notes →
       AreAssumed notes.origins seeds refused trail → AreSeeds u seeds chosen notes.asked notes.seen notes.exempt →
       IsAnswerBy u root chosen seeds notes.exempt in
       let here : List S = solvables_before (notes_of old).origins (trail_of old.search) (length_of (trail_of old.search)) in
       let answer : With (notes_of old) (trail_of old.search) here =
-      λ root seeds refused so assumed seeded. finished_is_valid u root (notes_of old) requirements
-      (trail_of old.search) seeds refused lawful packages so assumed seeded numbers up.variables finished in
+      λ root seeds refused so assumed seeded. finished_is_valid u root (notes_of old) w.0
+      (trail_of old.search) seeds refused lawful packages so assumed seeded w.1 up.variables finished in
       let OfNotes : Notes N S → Type 0 = λ n. With n (trail_of old.search) here in
       let OfTrail : Trail → Type 0 = λ t. With (notes_of new) t here in
       let OfChosen : List S → Type 0 = λ list. With (notes_of new) (trail_of new.search) list in
@@ -235,8 +243,8 @@ module _ {N S : Type 0} where
       let Promises : Notes N S → Trail → List S → Type 0 = λ notes trail chosen. (root : Demands) → IsReadSoFar u root chosen notes →
       AreAssumed notes.origins [] [] trail → TakesFirstChoices u root chosen in
       let promise : Promises (notes_of old) (trail_of old.search) here =
-      λ root so assumed. finished_is_first u root (notes_of old) requirements
-      (trail_of old.search) lawful packages so assumed numbers up.variables finished in
+      λ root so assumed. finished_is_first u root (notes_of old) w.0
+      (trail_of old.search) lawful packages so assumed w.1 up.variables finished in
       let PromisesOf : Notes N S → Type 0 = λ n. Promises n (trail_of old.search) here in
       let PromisesOn : Trail → Type 0 = λ t. Promises (notes_of new) t here in
       let PromisesFor : List S → Type 0 = λ list. Promises (notes_of new) (trail_of new.search) list in

@@ -21,6 +21,7 @@ use Rattle.resolver_clause_store.proofs.SlotLemmas.{slot-within}
 use Rattle.resolver_encoding.specs.Encodings.{IsEncoding, Notes}
 use Rattle.resolver_encoding.specs.LeftOut.{AreTrueIn, IsLeftOut}
 use Rattle.resolver_encoding.specs.Trails.{AreAssumed, origin_at}
+use Rattle.resolver_encoding.specs.Values.{requirement_numbers}
 use Rattle.resolver_encoding.proofs.LeftOutLemmas.{asked_candidate, satisfies_fewer}
 use Rattle.resolvo.specs.ClauseSearches.{IsConsistent, IsLoaded, IsRefused, base_of, given_place, trail_of}
 use Rattle.resolvo.specs.Resolvents.{IsFalseAt}
@@ -90,7 +91,7 @@ module _ (it : ClauseSearch) (given : List (List Literal)) (numbers : List ℕ) 
 
 -- each decided variable stands for a solvable, and is true
 module _ {N S : Type 0} (u : Universe N S) (root : Demands) (notes : Notes N S) (encoding : IsEncoding u root notes) (it : ClauseSearch)
-    (consistent : IsConsistent it) (has : HasLoaded notes.table notes.requirements it) where
+    (consistent : IsConsistent it) (has : HasLoaded notes.table (requirement_numbers notes.kinds) it) where
   given_at_place : (number : ℕ) → Contains has.numbers number → clause_at it.table (given_place it.places number) ≡ clause_at notes.table number
   given_at_place number listed =
       let inside : number < length has.given = All-contains (λ n. n < length has.given) has.numbers number has.loaded.inside listed in
@@ -109,7 +110,7 @@ module _ {N S : Type 0} (u : Universe N S) (root : Demands) (notes : Notes N S) 
       let Stands : List Literal → Type 0 = λ clause. Contains clause literal in
       let Asks : List ℕ → Type 0 = λ list. Contains list w.0 in
       let there = Contains-append_right c.before (literal ∷ c.after) literal (here literal c.after) in
-      let asked : Contains notes.requirements w.0 = subst Asks (sym has.requiring.is) (Contains-append_left has.numbers has.requiring.more w.0 w.1) in
+      let asked : Contains (requirement_numbers notes.kinds) w.0 = subst Asks (sym has.requiring.is) (Contains-append_left has.numbers has.requiring.more w.0 w.1) in
       let s = asked_candidate u root notes encoding w.0 asked literal (subst Stands (sym is) there) refl in
       (c.value, s.0, s.1)
 

@@ -31,6 +31,8 @@ use Rattle.resolver_encoding.specs.SoFar.{IsReading, IsReadMore, IsReadSoFar, le
 use Rattle.resolver_encoding.specs.Trails.{Follows, chosen_in, origin_at, solvables_before}
 use Rattle.resolver_encoding.specs.declared.chosen.Chosen.{Chosen}
 use Rattle.resolver_encoding.specs.declared.encoding.Encoding.{Encoding}
+use Rattle.resolver_encoding.specs.Values.{requirement_numbers}
+use Rattle.resolver_encoding.proofs.NumberLemmas.{Extends-numbers}
 use Rattle.resolver_encoding.proofs.Bridge.{before-back, stands, true_before}
 use Rattle.resolver_encoding.proofs.EncodedLemmas.{encoded_below, requirements_inside}
 use Rattle.resolver_encoding.proofs.EncodingLemmas.{Extends-within}
@@ -129,7 +131,7 @@ module _ {N S : Type 0} where
           numbers = [];
           loaded = fresh.loaded;
           clauses = record { more = (notes_in encoding).table; is = refl };
-          requiring = record { more = (notes_in encoding).requirements; is = refl };
+          requiring = record { more = requirement_numbers (notes_in encoding).kinds; is = refl };
         };
         variables = omega (arith, fresh.variables);
         bookmark = record {
@@ -149,7 +151,7 @@ module _ {N S : Type 0} where
       subst (Below count) (sym are) (subst Counted (sym counted) (encoded_below u reading.root notes reading.so_far.half.encoding))
 
   pub given_inside : (u : Universe N S) (set : List S) (notes : Notes N S) (table : List (List Literal)) (requirements : List RequirementClause) →
-      IsReading u set notes → table ≡ notes.table → map (λ (r : RequirementClause). r.number) requirements ≡ notes.requirements →
+      IsReading u set notes → table ≡ notes.table → map (λ (r : RequirementClause). r.number) requirements ≡ requirement_numbers notes.kinds →
       All (λ (r : RequirementClause). r.number < length table) requirements
   given_inside u set notes table requirements reading are numbers =
       let Inside : List (List Literal) → Type 0 = λ list. All (λ (r : RequirementClause). r.number < length list) requirements in
@@ -180,7 +182,7 @@ module _ {N S : Type 0} where
 
   -- the search has run over all clauses that were read
   pub searched : (u : Universe N S) (old : Rounds N S) (new : ClauseSearch) → AreRounds u old → IsConsistent new →
-      IsLoaded (notes_of old).table (notes_of old).requirements new → variable_count (trail_of new) ≡ length (notes_of old).origins →
+      IsLoaded (notes_of old).table (requirement_numbers (notes_of old).kinds) new → variable_count (trail_of new) ≡ length (notes_of old).origins →
       KeepsBookmark old.search new → AreRounds u (record old { search = new })
   searched u old new rounds consistent loaded size kept = record {
     answers = rounds.answers;
@@ -188,11 +190,11 @@ module _ {N S : Type 0} where
     consistent = consistent;
     loaded = record {
       given = (notes_of old).table;
-      numbers = (notes_of old).requirements;
+      numbers = requirement_numbers (notes_of old).kinds;
       loaded = loaded;
       clauses = record { more = []; is = sym (append-nil (notes_of old).table) };
       requiring =
-          record { more = []; is = sym (append-nil (notes_of old).requirements) };
+          record { more = []; is = sym (append-nil (requirement_numbers (notes_of old).kinds)) };
     };
     variables = omega (arith, size);
     bookmark = record {
@@ -252,7 +254,7 @@ module _ {N S : Type 0} where
       record {
         encoding = refl;
         consistent = consistent;
-        loaded = record { loaded = loaded (notes_of old).table (notes_of old).requirements up.loaded; variables = size };
+        loaded = record { loaded = loaded (notes_of old).table (requirement_numbers (notes_of old).kinds) up.loaded; variables = size };
         bookmark = record { base = trail_of search; follows = subst FollowsOn (sym same) again.follows; kept = places; known = omega (arith, size) };
         within = omega (arith, count, longer);
         earlier = subst Within (sym taken) again.inside;
@@ -305,10 +307,10 @@ module _ {N S : Type 0} where
         consistent = following.consistent;
         loaded = record {
           given = (notes_of mid).table;
-          numbers = (notes_of mid).requirements;
+          numbers = requirement_numbers (notes_of mid).kinds;
           loaded = following.loaded.loaded;
           clauses = more.growth.table;
-          requiring = more.growth.requirements;
+          requiring = Extends-numbers (notes_of mid).kinds (notes_in encoding).kinds more.growth.numbered;
         };
         variables = omega (arith, longer, following.loaded.variables);
         bookmark = record {

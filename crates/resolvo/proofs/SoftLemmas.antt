@@ -38,9 +38,10 @@ use Rattle.resolver_encoding.specs.ReadState.{AreSeeds}
 use Rattle.resolver_encoding.specs.SoFar.{IsReadSoFar}
 use Rattle.resolver_encoding.specs.Trails.{AreAssumed, Follows, atoms_before, origin_at, solvable_if, solvables_before, value_of}
 use Rattle.resolver_encoding.specs.Truth.{HasLawfulSolvables, Spares}
-use Rattle.resolver_encoding.specs.Turns.{AsksOnly, IsRegistered, IsTurnEnd}
+use Rattle.resolver_encoding.specs.Turns.{AsksOnly, IsAddition}
 use Rattle.resolver_encoding.specs.declared.chosen.Chosen.{Chosen}
 use Rattle.resolver_encoding.specs.declared.encoding.Encoding.{Encoding}
+use Rattle.resolver_encoding.specs.Values.{requirement_numbers}
 use Rattle.resolver_encoding.proofs.Bridge.{before-back, has_value, is_chosen, stands, true_before}
 use Rattle.resolver_encoding.proofs.EncodingLemmas.{Extends-same, Extends-trans, Extends-within}
 use Rattle.resolver_encoding.proofs.LeftOutLemmas.{left_out_more, left_out_nowhere, spares_exempting, spares_present}
@@ -58,32 +59,6 @@ use Rattle.resolvo.proofs.RefusingLemmas.{trail_agrees}
 use Rattle.resolver_clause_store.proofs.ListLemmas.{Contains-cons_cases as cons_cases, Contains-here as here, Contains-none as none_in, Contains-there as there}
 use Rattle.std.proofs.lemmas.List.Elements.{Contains-push as last_in}
 use Rattle.resolvo.proofs.TurnLemmas.{decided-assumed}
-
--- clauses were added, and nothing was read or deferred
-pub record IsAddition {N S : Type 0} (u : Universe N S) (old new : Notes N S) : Type 0 where
-  pub origins : Keeps old.origins new.origins
-  pub table : Extends old.table new.table
-  pub requirements : new.requirements ≡ old.requirements
-  pub asked : IsWithin old.asked new.asked
-  pub seen : IsWithin old.seen new.seen
-  pub read : new.read ≡ old.read
-  pub keeps : (root : Demands) (set : List S) → IsReadSoFar u root set old → IsReadSoFar u root set new
-
-pub registered_adds : {N S : Type 0} (u : Universe N S) (s : S) (old new : Notes N S) → IsRegistered u s old new → IsAddition u old new
-registered_adds {N} {S} u s old new r =
-    let Asked : List N → Type 0 = λ list. IsWithin old.asked list in
-    assumption (subst Asked (sym r.asked) (λ n h. h), Extends-within old.seen new.seen r.seen)
-
-pub asking_adds : {N S : Type 0} (u : Universe N S) (n : N) (old new : Notes N S) → AsksOnly u n old new → IsAddition u old new
-asking_adds {N} {S} u n old new a =
-    let Seen : List S → Type 0 = λ list. IsWithin old.seen list in
-    assumption (subst Seen (sym a.seen) (λ s h. h))
-
-pub ended_adds : {N S : Type 0} (u : Universe N S) (old new : Notes N S) → IsTurnEnd u old new → IsAddition u old new
-ended_adds {N} {S} u old new e =
-    let Asked : List N → Type 0 = λ list. IsWithin old.asked list in
-    let Seen : List S → Type 0 = λ list. IsWithin old.seen list in
-    assumption (subst Asked (sym e.asked) (λ n h. h), subst Seen (sym e.seen) (λ s h. h))
 
 pub earlier_in : {X : Type 0} (xs : List X) (x y : X) → Contains xs y → Contains (xs ++ x ∷ []) y
 earlier_in xs x y h = Contains-append_left xs (x ∷ []) y h
@@ -170,14 +145,14 @@ module _ {N S : Type 0} where
       let bookmark : HasBookmark old = rounds.bookmark in
       record {
         answers = answers;
-        reading = record { root = rounds.reading.root; so_far = adds.keeps rounds.reading.root (chosen_of old) rounds.reading.so_far };
+        reading = record { root = rounds.reading.root; so_far = adds.stays.so_far rounds.reading.root (chosen_of old) rounds.reading.so_far };
         consistent = rounds.consistent;
         loaded = record {
           given = rounds.loaded.given;
           numbers = rounds.loaded.numbers;
           loaded = rounds.loaded.loaded;
           clauses = Extends-trans rounds.loaded.given (notes_of old).table (notes_in encoding).table rounds.loaded.clauses adds.table;
-          requiring = subst Requiring (sym adds.requirements) rounds.loaded.requiring;
+          requiring = subst Requiring (sym adds.plainly) rounds.loaded.requiring;
         };
         variables = omega (arith, rounds.variables, longer);
         bookmark = record {
@@ -205,7 +180,7 @@ module _ {N S : Type 0} where
         let Seeds : List S → Type 0 = λ e. AreSeeds u taken (chosen_of old) (notes_in encoding).asked (notes_in encoding).seen e in
         let Exempt : List S → Type 0 = λ e. IsWithin e taken in
         record {
-          read = adds.keeps root (chosen_of old) b.read;
+          read = adds.stays.so_far root (chosen_of old) b.read;
           once = b.once;
           assumed = assumed_still (notes_of old).origins (notes_in encoding).origins (trail_of old.search)
               (trail_of old.search) taken refused adds.origins rounds.variables (λ v slot at reason. at) b.assumed;
@@ -213,7 +188,7 @@ module _ {N S : Type 0} where
               (chosen_of old) t adds.origins adds.table (λ x k. k) (b.left_out t h);
           seeded = subst Seeds (sym exempt) (record {
             seed_chosen = b.seeded.seed_chosen;
-            seed_registered = λ t h. adds.seen t (b.seeded.seed_registered t h);
+            seed_registered = λ t h. Extends-within (notes_of old).seen (notes_in encoding).seen adds.seen t (b.seeded.seed_registered t h);
             seed_free = λ t h. ⊎_elim (λ e. inl e) (λ asked. inr (adds.asked (u.name t) asked)) (b.seeded.seed_free t h);
           });
           within = b.within;
@@ -242,7 +217,7 @@ module _ {N S : Type 0} where
         let Own : N → Type 0 = λ m. Contains packages m in
         standing_added (record {
           seen = subst Near (sym alone.seen) b.near.seen;
-          read = subst Near (sym alone.read) b.near.read;
+          read = subst Near (sym adds.read) b.near.read;
           asked = λ m h. ⊎_elim (λ was. b.near.asked m was) (λ is. inr (subst Own (sym is) own)) (alone.asked.only m h);
         })
 
@@ -368,10 +343,10 @@ module _ {N S : Type 0} where
         consistent = following.consistent;
         loaded = record {
           given = (notes_of new).table;
-          numbers = (notes_of new).requirements;
+          numbers = requirement_numbers (notes_of new).kinds;
           loaded = following.loaded.loaded;
           clauses = Extends-same (notes_of new).table;
-          requiring = Extends-same (notes_of new).requirements;
+          requiring = Extends-same (requirement_numbers (notes_of new).kinds);
         };
         variables = omega (arith, following.loaded.variables);
         bookmark = following.bookmark;
@@ -607,7 +582,7 @@ module _ {N S : Type 0} where
             (omega (arith, size_cut))
 
         keeps_after : Keeps (notes_of old).origins o3
-        keeps_after = Keeps-trans (notes_of old).origins o2 o3 keeps_rest refusing.ended.origins
+        keeps_after = Keeps-trans (notes_of old).origins o2 o3 keeps_rest refusing.ended.adds.origins
 
         same_chosen : chosen_of after ≡ chosen_of old
         same_chosen =
@@ -687,7 +662,7 @@ module _ {N S : Type 0} where
             let Asked : List N → Type 0 = λ list. (n : N) → Contains list n → IsNamed u root (IsNear u root seeds) n ⊎ Contains packages n in
             record {
               seen = subst Read (sym refusing.ended.seen) rest_near.seen;
-              read = subst Read (sym refusing.ended.read) rest_near.read;
+              read = subst Read (sym refusing.ended.adds.read) rest_near.read;
               asked = subst Asked (sym refusing.ended.asked) rest_near.asked;
             }
 
@@ -752,13 +727,13 @@ module _ {N S : Type 0} where
         left_after t h =
             let Left : S → Type 0 = λ x. IsLeftOut o2 (notes_of rest).table (chosen_of old) x in
             left_out_more o2 o3 (notes_of rest).table (notes_of after).table (chosen_of old)
-            (chosen_of old) t refusing.ended.origins refusing.ended.table (λ x k. k)
+            (chosen_of old) t refusing.ended.adds.origins refusing.ended.adds.table (λ x k. k)
             (⊎_elim (λ was. left_rest (chosen_of old) (λ x k. k) t was) (λ e. subst Left e out_rest) (Contains-push_cases refused s t h))
 
         pub not_accepted : HasTurned u root taken refused seeds packages s old after false
         not_accepted =
             let read_after : IsReadSoFar u root (chosen_of old) (notes_of after) =
-            so_far_less u root (chosen_of old) (chosen_of rest) (notes_of after) old_within (refusing.ended.stays.so_far root (chosen_of rest) rest_read) in
+            so_far_less u root (chosen_of old) (chosen_of rest) (notes_of after) old_within (refusing.ended.adds.stays.so_far root (chosen_of rest) rest_read) in
             let Read : List S → Type 0 = λ list. IsReadSoFar u root list (notes_of after) in
             let Turned : List S → List S → Type 0 = λ c e. IsTurned u root taken (chosen_of old) (notes_of old).exempt (notes_of old).asked s taken c e false in
             let TurnedTo : List S → Type 0 = λ c. Turned c (notes_of after).exempt in
@@ -809,7 +784,7 @@ module _ {N S : Type 0} where
           numbers = rounds.loaded.numbers;
           loaded = loads rounds.loaded.given rounds.loaded.numbers rounds.loaded.loaded;
           clauses = subst Table (sym (ap (λ (n : Notes N S). n.table) only)) rounds.loaded.clauses;
-          requiring = subst Requiring (sym (ap (λ (n : Notes N S). n.requirements) only)) rounds.loaded.requiring;
+          requiring = subst Requiring (sym (ap (λ (n : Notes N S). requirement_numbers n.kinds) only)) rounds.loaded.requiring;
         };
         variables = omega (arith, size, rounds.variables, ap length origins);
         bookmark = record {

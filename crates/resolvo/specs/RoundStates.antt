@@ -31,6 +31,7 @@ use Rattle.resolver_encoding.specs.TrailAtoms.{IsAnswerBy}
 use Rattle.resolver_encoding.specs.Turns.{AsksOnly, IsTurnEnd}
 use Rattle.resolver_encoding.specs.Trails.{AreAssumed, Follows, chosen_in, solvables_before}
 use Rattle.resolver_encoding.specs.declared.chosen.Chosen.{Chosen}
+use Rattle.resolver_encoding.specs.Values.{requirement_numbers}
 use Rattle.resolvo.specs.ClauseSearches.{IsConsistent, IsLoaded, IsRefused, IsRootTurn, KeepsTurn, base_of, held_of, clause_count_of, kept_of, learnt_count_of}
 use Rattle.resolvo.specs.ClauseSearches.{trail_of}
 use Rattle.resolvo.specs.declared.clause_search.ClauseSearch.{ClauseSearch}
@@ -129,13 +130,13 @@ module _ {N S : Type 0} where
     pub answers : IsTrueCache u (cache_of r)
     pub reading : IsReading u (chosen_of r) (notes_of r)
     pub consistent : IsConsistent r.search
-    pub loaded : HasLoaded (notes_of r).table (notes_of r).requirements r.search
+    pub loaded : HasLoaded (notes_of r).table (requirement_numbers (notes_of r).kinds) r.search
     pub variables : variable_count (trail_of r.search) ≤ length (notes_of r).origins
     pub bookmark : HasBookmark r
 
   -- all clauses are loaded
   pub record IsUpToDate (r : Rounds N S) : Type 0 where
-    pub loaded : IsLoaded (notes_of r).table (notes_of r).requirements r.search
+    pub loaded : IsLoaded (notes_of r).table (requirement_numbers (notes_of r).kinds) r.search
     pub variables : variable_count (trail_of r.search) ≡ length (notes_of r).origins
 
   -- what was read for a problem stays read

@@ -19,7 +19,7 @@ module _ {D C N S : Type 0} where
 
   -- the number of its clauses, with the learnt ones, as far as it fits its type
   abbrev pub clause_count_in : Solver D C N S → ℕ
-  clause_count_in s = min (length s.rounds.encoding.table.kinds.items + learnt_count_of s.rounds.search) (2 ^ 64 - 1)
+  clause_count_in s = min (length s.rounds.encoding.table.kinds + learnt_count_of s.rounds.search) (2 ^ 64 - 1)
 
   -- the number of its deferred disjuncts
   abbrev pub deferred_count_in : Solver D C N S → ℕ
@@ -62,7 +62,7 @@ module _ {D C N S : Type 0} where
   -- or as many learnt clauses, which are those without a place.
   abbrev pub IsAtLimit : Solver D C N S → Type 0
   IsAtLimit s = ((length s.rounds.encoding.table.variables.origins ≡ s.variable_limit) × AreDistinct s.rounds.encoding.table.variables.origins)
-      ⊎ ((length s.rounds.encoding.table.kinds.items ≡ s.clause_limit)
+      ⊎ ((length s.rounds.encoding.table.kinds ≡ s.clause_limit)
       ⊎ ((s.clause_limit ≤ length s.rounds.search.table) ⊎ (s.learnt_limit ≤ length s.rounds.search.table - length s.rounds.search.places)))
 
   -- the cached answers of the provider are true, and the number of each variable fits its type

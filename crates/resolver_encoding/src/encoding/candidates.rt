@@ -12,6 +12,7 @@ ghost use Rattle.resolver_encoding.specs.Encodings.{Grows, IsFull, IsStepWhile, 
 ghost use Rattle.resolver_encoding.specs.Groups.{AreGroups, IsAt};
 ghost use Rattle.resolver_encoding.specs.Refusals.{IsShortage};
 ghost use Rattle.resolver_encoding.specs.Steps.{CallsOnly, HasBegun};
+ghost use Rattle.resolver_encoding.specs.Turns.{AddsPlainly};
 
 use super::Encoding;
 use crate::codes::{digit_count, has_digit, new_digit};
@@ -56,7 +57,7 @@ impl<N: Copy + Eq + Hash + Drop, S: Copy + Eq + Hash + Drop> Encoding<N, S> {
             (notes_in self.new)) }
         ensures begun { OnOk result (HasBegun name number (notes_in self.old) (notes_in self.new)) }
         ensures groups { OnOk result ((notes_in self.new).groups ≡ (notes_in self.old).groups) }
-        ensures requirements { OnOk result ((notes_in self.new).requirements ≡ (notes_in self.old).requirements) }
+        ensures plain { OnOk result (AddsPlainly (notes_in self.old) (notes_in self.new)) }
         ensures refusal { IfErr result (IsShortage (IsFull (notes_in self.new))) }
     {
         let Some(index) = new_digit(number) else {
@@ -87,7 +88,7 @@ impl<N: Copy + Eq + Hash + Drop, S: Copy + Eq + Hash + Drop> Encoding<N, S> {
             (notes_in self.new)) }
         ensures code { OnOk result ((i : ℕ) → 2 ^ i ≤ number → Contains (notes_in self.new).kinds (ImpliesKind solvable (Bit name i) (bit number i))) }
         ensures groups { OnOk result ((notes_in self.new).groups ≡ (notes_in self.old).groups) }
-        ensures requirements { OnOk result ((notes_in self.new).requirements ≡ (notes_in self.old).requirements) }
+        ensures plain { OnOk result (AddsPlainly (notes_in self.old) (notes_in self.new)) }
         ensures refusal { IfErr result (IsShortage (IsFull (notes_in self.new))) }
     {
         for index in 0..digit_count(number) {
@@ -113,7 +114,7 @@ impl<N: Copy + Eq + Hash + Drop, S: Copy + Eq + Hash + Drop> Encoding<N, S> {
         ensures seen { OnOk result (Contains (notes_in self.new).seen solvable) }
         ensures asked { OnOk result ((notes_in self.new).asked ≡ (notes_in self.old).asked) }
         ensures only { OnOk result ((t : S) → Contains (notes_in self.new).seen t → Contains (notes_in self.old).seen t ⊎ (t ≡ solvable)) }
-        ensures requirements { OnOk result ((notes_in self.new).requirements ≡ (notes_in self.old).requirements) }
+        ensures plain { OnOk result (AddsPlainly (notes_in self.old) (notes_in self.new)) }
         ensures refusal { IfErr result (IsShortage (IsFull (notes_in self.new))) }
     {
         let name = provider.solvable_name(solvable);
@@ -137,7 +138,7 @@ impl<N: Copy + Eq + Hash + Drop, S: Copy + Eq + Hash + Drop> Encoding<N, S> {
         ensures seen { OnOk result (Contains (notes_in self.new).seen solvable) }
         ensures asked { OnOk result ((notes_in self.new).asked ≡ (notes_in self.old).asked) }
         ensures only { OnOk result ((t : S) → Contains (notes_in self.new).seen t → Contains (notes_in self.old).seen t ⊎ (t ≡ solvable)) }
-        ensures requirements { OnOk result ((notes_in self.new).requirements ≡ (notes_in self.old).requirements) }
+        ensures plain { OnOk result (AddsPlainly (notes_in self.old) (notes_in self.new)) }
         ensures refusal { IfErr result (IsShortage (IsFull (notes_in self.new))) }
     {
         if is_among(&self.seen, &solvable) {

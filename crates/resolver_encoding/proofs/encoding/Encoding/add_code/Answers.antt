@@ -4,6 +4,7 @@ use Rattle.resolver_encoding.specs.Encodings.{coding_for}
 use Rattle.resolver_encoding.specs.Notes.{notes_in}
 use Rattle.resolver_encoding.proofs.EncodingLemmas.{IsStep-same, IsStep-trans, clause_listed}
 use Rattle.resolver_encoding.proofs.SeeLemmas.{IsStep-own, more_digits}
+use Rattle.resolver_encoding.proofs.TurnLemmas.{AddsPlainly-clause}
 use Rattle.resolver_encoding.proofs.RoomLemmas.{KeepsRoom-same, KeepsRoom-trans}
 use Rattle.resolver_encoding.proofs.encoding.Encoding.add_code.Goals as goal
 
@@ -13,7 +14,7 @@ loop-index-init g c = record {
   step = IsStep-same (g.D.Interner.universe c.args.provider.now) (coding_for c.args.name c.args.number c.args.solvable) (λ root. ⊤) (notes_in c.args.self.now);
   code = λ i below. absurd (omega (arith, below));
   groups = refl;
-  requirements = refl;
+  plain = refl;
 }
 
 pub loop-index-preserved : goal.loop-index-preserved
@@ -34,5 +35,5 @@ loop-index-preserved g c =
       code = more_digits old.kinds new.kinds n k s c.loop-index.index c.has_digit-value.result step.growth.kinds before.code c.has_digit-value.ensures
           (clause_listed u old new _ adds);
       groups = ap (λ x. x.groups) adds.is ∙ before.groups;
-      requirements = ap (λ x. x.requirements) adds.is ∙ before.requirements;
+      plain = AddsPlainly-clause u old new _ (λ j. refl) adds ∙ before.plain;
     }

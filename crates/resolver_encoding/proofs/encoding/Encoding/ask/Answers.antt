@@ -1,4 +1,4 @@
-use Rattle.std.proofs.Common.{◌∙◌, sym, ap, subst, All, Contains, List, refl}
+use Rattle.std.proofs.Common.{◌∙◌, sym, ap, subst, All, Contains, List}
 use Rattle.std.specs.Prelude.{⊤}
 use Rattle.std.proofs.lemmas.List.Elements.{Contains-push}
 use Rattle.resolver_clause_store.specs.declared.ClauseKind.TheVariants.{Excluded}
@@ -6,8 +6,7 @@ use Rattle.resolver_encoding.specs.Encodings.{asking_for}
 use Rattle.resolver_encoding.specs.Notes.{notes_in}
 use Rattle.resolver_encoding.proofs.EncodingLemmas.{IsAskStep-same, IsStep-trans}
 use Rattle.resolver_encoding.proofs.NoteLemmas.{IsPackageRead-found, IsStep-asked}
-use Rattle.resolver_encoding.specs.Turns.{AddsPlainly}
-use Rattle.resolver_encoding.proofs.TurnLemmas.{AddsPlainly-trans, AsksOnly-of, AsksOnly-same}
+use Rattle.resolver_encoding.proofs.TurnLemmas.{AsksOnly-of, AsksOnly-same}
 use Rattle.resolver_encoding.specs.Called.{IsAsking}
 use Rattle.resolver_encoding.proofs.RoomLemmas.{KeepsRoom-trans, KeepsTrue-of, KeepsTrue-same}
 use Rattle.resolver_encoding.proofs.encoding.Encoding.ask.Goals as goal
@@ -42,11 +41,9 @@ returns-clause-asked g c =
 pub returns-clause-alone : goal.returns-clause-alone
 returns-clause-alone g c =
     let u = g.D.Interner.universe c.args.provider.now in
-    let mid = notes_in c.exclude_each.new.self in
-    let Plain : List g.row.N.Denot → Type 0 = λ list. AddsPlainly (notes_in c.args.self.now) (record mid { asked = list }) in
-    let plain = AddsPlainly-trans u _ _ _ c.in_ok-lock_out_others.ensures.plain c.in_ok-exclude_each.ensures.plain in
     AsksOnly-of u c.args.name (notes_in c.args.self.now) _ (returns-clause-step g c) (returns-clause-asked g c)
-    (subst Plain (sym c.in_ok-append.ensures.keys) (record { requirements = plain.requirements; seen = plain.seen }))
+    (c.in_ok-exclude_each.ensures.plain ∙ c.in_ok-lock_out_others.ensures.plain)
+    (c.in_ok-exclude_each.ensures.step.seen ∙ c.in_ok-lock_out_others.ensures.step.seen)
 
 pub returns-clause-limits : goal.returns-clause-limits
 returns-clause-limits g c =

@@ -11,6 +11,7 @@ use Rattle.resolver_encoding.specs.Notes.{notes_in}
 use Rattle.resolver_encoding.proofs.EncodingLemmas.{IsStep-same, IsStep-trans, clause_listed}
 use Rattle.resolver_encoding.proofs.NoteLemmas.{All-grown}
 use Rattle.resolver_encoding.proofs.SeeLemmas.{IsStep-begun, digit_begun, place_of_item}
+use Rattle.resolver_encoding.proofs.TurnLemmas.{AddsPlainly-clause}
 use Rattle.resolver_encoding.proofs.RoomLemmas.{KeepsRoom-same, KeepsRoom-trans}
 use Rattle.resolver_encoding.proofs.encoding.Encoding.begin_digit.Goals as goal
 
@@ -20,7 +21,7 @@ loop-other-init g c = record {
   step = IsStep-same (g.D.Interner.universe c.args.provider.now) (coding_for c.args.name c.args.number c.args.solvable) (λ root. ⊤) (notes_in c.args.self.now);
   begun = All-nil (λ t. Contains (notes_in c.args.self.now).kinds (Implies t (Bit c.args.name c.in-Some.index) false));
   groups = refl;
-  requirements = refl;
+  plain = refl;
 }
 
 pub loop-other-preserved : goal.loop-other-preserved
@@ -51,7 +52,7 @@ loop-other-preserved g c =
       begun = All-grown (λ x. Contains old.kinds (Implies x (Bit n i) false)) (λ x. Contains new.kinds (Implies x (Bit n i) false)) list j t (λ y h.
           step.growth.kinds _ h) (omega arith) c.other-item.is before.begun (clause_listed u old new _ adds);
       groups = ap (λ x. x.groups) adds.is ∙ before.groups;
-      requirements = ap (λ x. x.requirements) adds.is ∙ before.requirements;
+      plain = AddsPlainly-clause u old new _ (λ j. refl) adds ∙ before.plain;
     }
 
 pub returns-clause-begun : goal.returns-clause-begun

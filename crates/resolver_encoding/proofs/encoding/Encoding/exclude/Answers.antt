@@ -24,4 +24,4 @@ returns-clause-forbidden g c =
 pub returns-clause-plain : goal.returns-clause-plain
 returns-clause-plain g c =
     let u = g.D.Interner.universe c.args.provider.now in
-    AddsPlainly-clause u (notes_in c.args.self.now) _ (Excluded c.args.solvable c.args.reason) (λ numbers. refl) (c.in_ok-add.ensures.added u refl)
+    AddsPlainly-clause u (notes_in c.args.self.now) _ (Excluded c.args.solvable c.args.reason) (λ n. refl) (c.in_ok-add.ensures.added u refl)

@@ -1,4 +1,4 @@
-use Rattle.std.proofs.Common.{◌≡◌, subst, arith, Contains, List}
+use Rattle.std.proofs.Common.{◌∙◌, ◌≡◌, subst, arith, Contains, List, refl}
 use Rattle.std.specs.Prelude.{⊤}
 use Rattle.std.proofs.lemmas.List.Elements.{All-contains, All-nil}
 use Rattle.resolver_clause_store.specs.declared.ClauseKind.TheVariants.{Excluded}
@@ -7,7 +7,6 @@ use Rattle.resolver_encoding.specs.Notes.{notes_in}
 use Rattle.resolver_clause_store.proofs.SetLemmas.{All-done, Contains-item}
 use Rattle.resolver_encoding.proofs.EncodingLemmas.{IsStep-same, IsStep-trans}
 use Rattle.resolver_encoding.proofs.NoteLemmas.{All-grown}
-use Rattle.resolver_encoding.proofs.TurnLemmas.{AddsPlainly-same, AddsPlainly-trans}
 use Rattle.resolver_clause_store.proofs.ListLemmas.{Contains-here as here}
 use Rattle.resolver_encoding.proofs.RoomLemmas.{KeepsRoom-same, KeepsRoom-trans}
 use Rattle.resolver_encoding.proofs.encoding.Encoding.exclude_each.Goals as goal
@@ -17,7 +16,7 @@ loop-solvable-init g c = record {
   room = KeepsRoom-same _;
   step = IsStep-same (g.D.Interner.universe c.args.provider.now) (asking_for c.args.name) (λ root. ⊤) (notes_in c.args.self.now);
   read = All-nil (λ e. (Contains (notes_in c.args.self.now).exempt e.0 → ⊥) → Contains (notes_in c.args.self.now).kinds (Excluded e.0 e.1));
-  plain = AddsPlainly-same (g.D.Interner.universe c.args.provider.now) (notes_in c.args.self.now);
+  plain = refl;
 }
 
 pub exclude-requires-clause-named : goal.exclude-requires-clause-named
@@ -50,7 +49,7 @@ loop-solvable-preserved g c =
           Contains (notes_in c.exclude.new.self).kinds
           (Excluded e.0 e.1)) c.args.excluded.now c.loop-solvable.solvable-index c.loop-solvable-item.result (λ y h free. step.growth.kinds _ (h free))
           (omega arith) c.loop-solvable-item.is before.read (subst Free before.step.growth.exempt c.in_ok-exclude.ensures.forbidden);
-      plain = AddsPlainly-trans u _ _ _ before.plain c.in_ok-exclude.ensures.plain;
+      plain = c.in_ok-exclude.ensures.plain ∙ before.plain;
     }
 
 pub returns-clause-read : goal.returns-clause-read

@@ -1,4 +1,4 @@
-use Rattle.std.proofs.Common.{◌≡◌, ◌∙◌, sym, subst, arith, Contains, List}
+use Rattle.std.proofs.Common.{◌≡◌, ◌∙◌, sym, subst, arith, Contains, List, refl}
 use Rattle.std.specs.Prelude.{⊤}
 use Rattle.std.proofs.lemmas.List.Elements.{All-nil}
 use Rattle.resolver_clause_store.specs.declared.ClauseKind.TheVariants.{Lock}
@@ -7,7 +7,6 @@ use Rattle.resolver_encoding.specs.Notes.{notes_in}
 use Rattle.resolver_clause_store.proofs.SetLemmas.{All-done, Contains-item}
 use Rattle.resolver_encoding.proofs.EncodingLemmas.{IsStep-same, IsStep-trans}
 use Rattle.resolver_encoding.proofs.NoteLemmas.{All-grown}
-use Rattle.resolver_encoding.proofs.TurnLemmas.{AddsPlainly-same, AddsPlainly-trans}
 use Rattle.resolver_clause_store.proofs.ListLemmas.{Contains-here as here}
 use Rattle.resolver_encoding.proofs.RoomLemmas.{KeepsRoom-same, KeepsRoom-trans}
 use Rattle.resolver_encoding.proofs.encoding.Encoding.lock_out_others.Goals as goal
@@ -18,7 +17,7 @@ loop-candidate-init g c = record {
   step = IsStep-same (g.D.Interner.universe c.args.provider.now) (asking_for c.args.name) (λ root. ⊤) (notes_in c.args.self.now);
   forbidden = All-nil (λ s. (s ≡ c.in-Some.locked → ⊥) → (Contains (notes_in c.args.self.now).exempt s → ⊥) →
       Contains (notes_in c.args.self.now).kinds (Lock c.in-Some.locked s));
-  plain = AddsPlainly-same (g.D.Interner.universe c.args.provider.now) (notes_in c.args.self.now);
+  plain = refl;
 }
 
 pub lock_out-requires-clause-named : goal.lock_out-requires-clause-named
@@ -52,7 +51,7 @@ loop-candidate-preserved g c =
           Contains (notes_in c.lock_out.new.self).kinds
           (Lock t s)) c.args.listed.now c.loop-candidate.candidate-index c.candidate-item.result (λ y h apart free. step.growth.kinds _ (h apart free))
           (omega arith) c.candidate-item.is before.forbidden (subst Free before.step.growth.exempt c.in_ok-lock_out.ensures.forbidden);
-      plain = AddsPlainly-trans u _ _ _ before.plain c.in_ok-lock_out.ensures.plain;
+      plain = c.in_ok-lock_out.ensures.plain ∙ before.plain;
     }
 
 pub returns-clause-read : goal.returns-clause-read

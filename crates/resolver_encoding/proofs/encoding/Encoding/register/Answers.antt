@@ -19,4 +19,4 @@ returns-clause-registered g c =
     (IsAskStep-of u (IsSeeing c.args.solvable) (λ root. ⊤) _ _
     (IsStep-origins u idle (λ root. ⊤) old _ (origins_in c.intern.new.self) (limit_in c.intern.new.self) grows c.intern.ensures.limit refl))
     c.in_ok-see.ensures.step)
-    c.in_ok-see.ensures.seen c.in_ok-see.ensures.only c.in_ok-see.ensures.requirements c.in_ok-see.ensures.asked
+    c.in_ok-see.ensures.seen c.in_ok-see.ensures.only c.in_ok-see.ensures.plain c.in_ok-see.ensures.asked

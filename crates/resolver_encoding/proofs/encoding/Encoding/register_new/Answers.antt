@@ -59,6 +59,6 @@ returns g c =
           (IsWithin-equal c.append.new.set.keys (mid.seen ++ c.args.solvable ∷ []) (sym c.in_ok-append.ensures.keys) t h));
       room = (let one = c.begin_digit.ensures.room in let two = c.add_code.ensures.room in
           record { variables = two.variables ∙ one.variables ∙ c.intern.ensures.limit; clauses = two.clauses ∙ one.clauses; cache = two.cache ∙ one.cache });
-      requirements = c.in_ok-add_code.ensures.requirements ∙ c.in_ok-begin_digit.ensures.requirements;
+      plain = c.in_ok-add_code.ensures.plain ∙ c.in_ok-begin_digit.ensures.plain;
       refusal = tt;
     }

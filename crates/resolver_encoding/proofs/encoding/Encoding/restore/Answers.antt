@@ -1,11 +1,10 @@
-use Rattle.std.proofs.Common.{◌∙◌, ap, sym, subst, Contains, List}
+use Rattle.std.proofs.Common.{◌∙◌, ap, sym, subst, Contains, List, refl}
 use Rattle.std.specs.Prelude.{⊤}
 use Rattle.resolver_encoding.specs.Encodings.{owing_for}
 use Rattle.resolver_encoding.specs.Notes.{notes_in}
 use Rattle.resolver_encoding.proofs.EncodingLemmas.{IsStep-trans}
-use Rattle.resolver_encoding.proofs.TurnLemmas.{AddsPlainly-trans, IsRestored-found, IsRestored-unasked}
+use Rattle.resolver_encoding.proofs.TurnLemmas.{IsRestored-found, IsRestored-unasked}
 use Rattle.resolver_encoding.proofs.EncodingLemmas.{IsStep-same}
-use Rattle.resolver_encoding.proofs.TurnLemmas.{AddsPlainly-same}
 use Rattle.resolver_encoding.proofs.RoomLemmas.{KeepsRoom-trans, KeepsTrue-of, KeepsTrue-same}
 use Rattle.resolver_encoding.proofs.encoding.Encoding.restore.Goals as goal
 
@@ -21,7 +20,7 @@ returns-then-not-is_among g c =
           IsRestored-unasked u c.args.solvable (notes_in c.args.self.now) (subst Asked c.solvable_name-name.ensures c.if-not-is_among.ensures);
       room = KeepsTrue-same _;
       step = IsStep-same (g.D.Interner.universe c.args.provider.now) (owing_for c.args.solvable) (λ root. ⊤) (notes_in c.args.self.now);
-      plain = AddsPlainly-same (g.D.Interner.universe c.args.provider.now) (notes_in c.args.self.now);
+      plain = refl;
       refusal = tt;
     }
 
@@ -30,8 +29,7 @@ returns g c =
     record {
       step = IsStep-trans (g.D.Interner.universe c.args.provider.now) (owing_for c.args.solvable) (λ root.
           ⊤) _ _ _ c.in_ok-restore_lock.ensures.step c.in_ok-restore_exclusions.ensures.step;
-      plain = AddsPlainly-trans
-          (g.D.Interner.universe c.args.provider.now) _ _ _ c.in_ok-restore_lock.ensures.plain c.in_ok-restore_exclusions.ensures.plain;
+      plain = c.in_ok-restore_exclusions.ensures.plain ∙ c.in_ok-restore_lock.ensures.plain;
       restored = let u = g.D.Interner.universe c.args.provider.now in
           let answer = c.candidates-package.ensures u c.fetch_candidates.ensures.is_true in
           IsRestored-found u c.args.solvable (notes_in c.args.self.now) (notes_in c.restore_lock.new.self)

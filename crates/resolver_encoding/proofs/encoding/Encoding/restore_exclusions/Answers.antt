@@ -1,4 +1,4 @@
-use Rattle.std.proofs.Common.{◌≡◌, sym, subst, arith, Contains, List}
+use Rattle.std.proofs.Common.{◌∙◌, ◌≡◌, sym, subst, arith, Contains, List, refl}
 use Rattle.std.specs.Prelude.{⊤}
 use Rattle.std.proofs.lemmas.List.Elements.{All-contains, All-nil}
 use Rattle.resolver_clause_store.specs.declared.ClauseKind.TheVariants.{Excluded}
@@ -7,7 +7,6 @@ use Rattle.resolver_encoding.specs.Notes.{notes_in}
 use Rattle.resolver_clause_store.proofs.SetLemmas.{All-done, Contains-item}
 use Rattle.resolver_encoding.proofs.EncodingLemmas.{IsStep-same, IsStep-trans}
 use Rattle.resolver_encoding.proofs.NoteLemmas.{All-grown}
-use Rattle.resolver_encoding.proofs.TurnLemmas.{AddsPlainly-same, AddsPlainly-trans}
 use Rattle.resolver_encoding.proofs.RoomLemmas.{KeepsRoom-same, KeepsRoom-trans}
 use Rattle.resolver_encoding.proofs.encoding.Encoding.restore_exclusions.Goals as goal
 
@@ -15,7 +14,7 @@ pub loop-other-init : goal.loop-other-init
 loop-other-init g c = record {
   room = KeepsRoom-same _;
   step = IsStep-same (g.D.Interner.universe c.args.provider.now) (owing_for c.args.solvable) (λ root. ⊤) (notes_in c.args.self.now);
-  plain = AddsPlainly-same (g.D.Interner.universe c.args.provider.now) (notes_in c.args.self.now);
+  plain = refl;
   restored = All-nil (λ e. e.0 ≡ c.args.solvable → (Contains (notes_in c.args.self.now).exempt c.args.solvable → ⊥) →
       Contains (notes_in c.args.self.now).kinds (Excluded e.0 e.1));
 }
@@ -50,7 +49,7 @@ loop-other-preserved g c =
     record {
       room = KeepsRoom-trans _ _ _ before.room c.restore_exclusion.ensures.room;
       step = IsStep-trans u (owing_for s) (λ root. ⊤) _ _ _ before.step step;
-      plain = AddsPlainly-trans u _ _ _ before.plain c.in_ok-restore_exclusion.ensures.plain;
+      plain = c.in_ok-restore_exclusion.ensures.plain ∙ before.plain;
       restored = All-grown (λ e. e.0 ≡ s → (Contains (notes_in c.args.self.now).exempt s → ⊥) →
           Contains (notes_in c.loop-other.self).kinds (Excluded e.0 e.1)) (λ e.
           e.0 ≡ s → (Contains (notes_in c.args.self.now).exempt s → ⊥) →

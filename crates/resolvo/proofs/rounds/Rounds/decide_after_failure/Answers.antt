@@ -1,4 +1,5 @@
 use Rattle.std.proofs.Common.{◌∙◌, inr}
+use Rattle.resolver_encoding.specs.Values.{requirement_numbers}
 use Rattle.resolvo.specs.RoundStates.{notes_of}
 use Rattle.resolvo.proofs.RoundLemmas.{searched}
 use Rattle.resolvo.proofs.TurnLemmas.{turn-trans}
@@ -12,9 +13,9 @@ returns g c =
     let loaded = c.load.ensures.limits in
     record {
       rounds = searched (g.D.Interner.universe c.args.provider.now) mid c.decide.new.self c.in_ok-load.ensures.rounds c.in_ok-is_made.ensures.consistent
-          (same.loaded (notes_of mid).table (notes_of mid).requirements up.loaded) (same.variables ∙ up.variables) same.kept;
+          (same.loaded (notes_of mid).table (requirement_numbers (notes_of mid).kinds) up.loaded) (same.variables ∙ up.variables) same.kept;
       loaded = record {
-        loaded = same.loaded (notes_of mid).table (notes_of mid).requirements up.loaded;
+        loaded = same.loaded (notes_of mid).table (requirement_numbers (notes_of mid).kinds) up.loaded;
         variables = same.variables ∙ up.variables;
       };
       same = record { encoding = c.load.ensures.same.encoding; chosen = c.load.ensures.same.chosen };

@@ -1,5 +1,6 @@
 use Rattle.std.proofs.Common.{ap, length, ◌∙◌, ◌≡◌, refl}
 use Rattle.resolver_clause_store.specs.TrailView.{variable_count}
+use Rattle.resolver_encoding.specs.Values.{requirement_numbers}
 use Rattle.resolvo.specs.ClauseSearches.{IsLoaded, trail_of}
 use Rattle.resolvo.specs.RoundStates.{chosen_of, notes_of}
 use Rattle.resolvo.proofs.RoundLemmas.{given_below, given_inside, loaded_all, rounds_owned, searched, still_owned}
@@ -21,8 +22,8 @@ pub returns : goal.returns
 returns g c =
     record {
       rounds = let notes = notes_of c.args.self.now in
-          let loaded : IsLoaded notes.table notes.requirements c.load.new.self =
-          loaded_all notes.table c.literals.result.now notes.requirements c.requirements.result.now c.args.self.now.search c.load.new.self
+          let loaded : IsLoaded notes.table (requirement_numbers notes.kinds) c.load.new.self =
+          loaded_all notes.table c.literals.result.now (requirement_numbers notes.kinds) c.requirements.result.now c.args.self.now.search c.load.new.self
           c.requires.rounds.loaded c.literals.ensures c.requirements.ensures c.in_ok-load.ensures.loaded in
           let size : variable_count (trail_of c.load.new.self) ≡ length notes.origins = c.in_ok-load.ensures.variables ∙ c.len.ensures ∙
           ap length c.variables-known.ensures in
@@ -32,7 +33,7 @@ returns g c =
           size c.in_ok-load.ensures.kept;
       loaded = let notes = notes_of c.args.self.now in
           record {
-            loaded = loaded_all notes.table c.literals.result.now notes.requirements c.requirements.result.now c.args.self.now.search c.load.new.self
+            loaded = loaded_all notes.table c.literals.result.now (requirement_numbers notes.kinds) c.requirements.result.now c.args.self.now.search c.load.new.self
                 c.requires.rounds.loaded c.literals.ensures c.requirements.ensures c.in_ok-load.ensures.loaded;
             variables = c.in_ok-load.ensures.variables ∙ c.len.ensures ∙ ap length c.variables-known.ensures;
           };

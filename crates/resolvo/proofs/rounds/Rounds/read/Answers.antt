@@ -8,6 +8,7 @@ use Rattle.resolvo.proofs.RoundLemmas.{chosen_known, read_first, read_more, read
 use Rattle.resolvo.proofs.GoingLemmas.{drawn_or_assumed, goes_read}
 use Rattle.resolver_encoding.proofs.ReachLemmas.{positives_seen}
 use Rattle.resolver_encoding.specs.SoFar.{IsProgress}
+use Rattle.resolver_encoding.specs.Values.{requirement_numbers}
 use Rattle.resolvo.proofs.rounds.Rounds.read.Goals as goal
 
 pub read_chosen-requires-clause-reading : goal.read_chosen-requires-clause-reading
@@ -37,7 +38,7 @@ returns g c =
           (c.in_ok-progress.ensures.asked c.requires.rounds.reading.root
           (read_first (g.D.Interner.universe c.args.provider.now) c.requires.rounds.reading.root old c.follow.new.self c.in_ok-from.from
           c.solvables.result.now.keys c.in_ok-from.ensures.following c.solvables.ensures c.requires.rounds.reading.so_far)).stays
-          (drawn_or_assumed old.search (notes_of old).table (notes_of old).requirements c.requires.rounds.consistent c.requires.loaded.loaded)
+          (drawn_or_assumed old.search (notes_of old).table (requirement_numbers (notes_of old).kinds) c.requires.rounds.consistent c.requires.loaded.loaded)
           (λ root encoding. positives_seen (g.D.Interner.universe c.args.provider.now) root (notes_of old) encoding);
       followed = let it = c.in_ok-from.ensures.followed in
           record { trail = it.trail; clauses = it.clauses; learnt = it.learnt; turn = it.turn; bookmarked = it.bookmarked; chosen = it.chosen };

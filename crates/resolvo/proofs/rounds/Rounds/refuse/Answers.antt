@@ -8,9 +8,10 @@ use Rattle.resolver_clause_store.specs.declared.Trail.{Trail}
 use Rattle.resolver_encoding.specs.Notes.{notes_in}
 use Rattle.resolver_encoding.specs.Turns.{IsTurnEnd}
 use Rattle.resolver_encoding.specs.declared.encoding.Encoding.{Encoding}
+use Rattle.resolver_encoding.specs.Values.{requirement_numbers}
 use Rattle.resolvo.specs.ClauseSearches.{trail_of}
 use Rattle.resolvo.specs.RoundStates.{HasAssumed, notes_of}
-use Rattle.resolvo.proofs.SoftLemmas.{assumed_inside, ended_adds, refused_within, rounds_added, rounds_followed, still_assumed}
+use Rattle.resolvo.proofs.SoftLemmas.{assumed_inside, refused_within, rounds_added, rounds_followed, still_assumed}
 use Rattle.resolvo.proofs.RoundLemmas.{room_of, room_trans}
 use Rattle.resolvo.proofs.rounds.Rounds.refuse.Goals as goal
 
@@ -20,7 +21,7 @@ load-requires g c =
     let old = c.args.self.now in
     record {
       rounds = rounds_added u old c.end_turn.new.self c.requires.rounds (c.end_turn.ensures.limits.answers c.requires.rounds.answers)
-          (ended_adds u (notes_of old) (notes_in c.end_turn.new.self) c.in_ok-end_turn.ensures.ended);
+          c.in_ok-end_turn.ensures.ended.adds;
     }
 
 pub assume-requires-clause-inside : goal.assume-requires-clause-inside
@@ -47,7 +48,7 @@ follow-requires-clause-loaded g c =
     let notes = notes_of c.load.new.self in
     let up = c.in_ok-load.ensures.loaded in
     record {
-      loaded = c.in_ok-assume.ensures.loaded notes.table notes.requirements (c.in_ok-retract.ensures.loaded notes.table notes.requirements up.loaded);
+      loaded = c.in_ok-assume.ensures.loaded notes.table (requirement_numbers notes.kinds) (c.in_ok-retract.ensures.loaded notes.table (requirement_numbers notes.kinds) up.loaded);
       variables = c.in_ok-assume.ensures.gains.size ∙ c.in_ok-retract.ensures.cut.size ∙ up.variables;
     }
 

@@ -1,7 +1,8 @@
-use Rattle.std.proofs.Common.{List, refl, ◌≡◌}
+use Rattle.std.proofs.Common.{List, ◌≡◌}
 use Rattle.resolver_clause_store.specs.Outcomes.{IsFinished}
 use Rattle.resolver_clause_store.specs.declared.RequirementClause.{RequirementClause}
 use Rattle.resolver_encoding.specs.SoFar.{IsProgress}
+use Rattle.resolver_encoding.specs.Values.{requirement_numbers}
 use Rattle.resolvo.specs.ClauseSearches.{OutcomeIs, numbers_of, trail_of}
 use Rattle.resolvo.specs.RoundStates.{notes_of}
 use Rattle.resolvo.proofs.GoingLemmas.{answering, goes_searched, goes_trans}
@@ -15,7 +16,7 @@ returns-in-Contradiction g c =
       rounds = c.in_ok-core.ensures.rounds;
       keeps = goes_searched (g.D.Interner.universe c.args.provider.now) c.args.self.now c.search.new.self c.in_ok-core.ensures.same c.in_ok-core.ensures.turn;
       round = let mid = c.search.new.self in
-          let outcome : OutcomeIs (notes_of mid).table (notes_of mid).requirements mid.search c.in_ok-core.field-0 =
+          let outcome : OutcomeIs (notes_of mid).table (requirement_numbers (notes_of mid).kinds) mid.search c.in_ok-core.field-0 =
           c.in_ok-core.ensures.outcome in
           rw c.in-Contradiction.is at outcome;
       limits = c.search.ensures.limits;
@@ -28,7 +29,7 @@ returns-in-Refused g c =
       rounds = c.in_ok-core.ensures.rounds;
       keeps = goes_searched (g.D.Interner.universe c.args.provider.now) c.args.self.now c.search.new.self c.in_ok-core.ensures.same c.in_ok-core.ensures.turn;
       round = let mid = c.search.new.self in
-          let outcome : OutcomeIs (notes_of mid).table (notes_of mid).requirements mid.search c.in_ok-core.field-0 =
+          let outcome : OutcomeIs (notes_of mid).table (requirement_numbers (notes_of mid).kinds) mid.search c.in_ok-core.field-0 =
           c.in_ok-core.ensures.outcome in
           rw c.in-Refused.is at outcome;
       limits = c.search.ensures.limits;
@@ -47,17 +48,17 @@ returns-in-Nothing g c =
           let new = c.read.new.self in
           let up = c.in_ok-core.ensures.loaded in
           let followed = c.in_ok-read-in-Finished.ensures.followed in
-          let outcome : OutcomeIs (notes_of mid).table (notes_of mid).requirements mid.search c.in_ok-core.field-0 =
+          let outcome : OutcomeIs (notes_of mid).table (requirement_numbers (notes_of mid).kinds) mid.search c.in_ok-core.field-0 =
           c.in_ok-core.ensures.outcome in
-          let finished : (requirements : List RequirementClause) → numbers_of requirements ≡ (notes_of mid).requirements →
+          let finished : (requirements : List RequirementClause) → numbers_of requirements ≡ requirement_numbers (notes_of mid).kinds →
           IsFinished (notes_of mid).table requirements (trail_of mid.search) = rw c.in-Finished.is at outcome in
           let progress : IsProgress (notes_of mid) (notes_of new) c.in_ok-read-in-Finished.field-0 = c.in_ok-read-in-Finished.ensures.progress in
           let same : notes_of new ≡ notes_of mid = rw c.in-Nothing.is at progress in
-          answering u mid new mid.encoding.table.requirements.items
+          answering u mid new
           (lawful_solvables u g.S.PartialEq.eq (g.met.D.Interner.lawful_ids c.args.provider.now)
           (g.met.D.Interner.solvables_compare c.args.provider.now) g.met.D.Interner.solvables_are_values)
           (g.met.D.DependencyProvider.lawful_packages c.args.provider.now)
-          up c.in_ok-core.ensures.rounds followed same followed.bookmarked refl (finished mid.encoding.table.requirements.items refl);
+          up c.in_ok-core.ensures.rounds followed same followed.bookmarked finished;
       limits = room_trans c.args.self.now c.search.new.self c.read.new.self c.search.ensures.limits c.read.ensures.limits;
       refusal = tt;
     }

@@ -8,7 +8,7 @@ use Rattle.resolver_encoding.specs.Notes.{notes_in}
 use Rattle.resolver_encoding.specs.Trails.{chosen_in}
 use Rattle.resolver_encoding.specs.declared.encoding.Encoding.{Encoding}
 use Rattle.resolvo.specs.RoundStates.{notes_of}
-use Rattle.resolvo.proofs.SoftLemmas.{registered_adds, rounds_added, skipped, standing_loaded, standing_registered, still_added, turned_from}
+use Rattle.resolvo.proofs.SoftLemmas.{rounds_added, skipped, standing_loaded, standing_registered, still_added, turned_from}
 use Rattle.resolver_encoding.proofs.SoFarLemmas.{lawful_solvables}
 use Rattle.resolver_encoding.proofs.RoomLemmas.{KeepsTrue-of}
 use Rattle.resolvo.proofs.RoundLemmas.{room_of, room_trans}
@@ -21,7 +21,7 @@ load-requires g c =
     record {
       rounds = rounds_added u old c.register.new.self c.requires.rest.rounds
           ((KeepsTrue-of {u = u} _ _ c.register.ensures.limits).answers c.requires.rest.rounds.answers)
-          (registered_adds u c.args.solvable (notes_of old) (notes_in c.register.new.self) c.in_ok-variable.ensures.registered);
+          c.in_ok-variable.ensures.registered.adds;
     }
 
 pub slot-requires : goal.slot-requires
@@ -39,7 +39,7 @@ attempt-requires-clause-rest g c = record {
   rounds = c.in_ok-load.ensures.rounds;
   still = c.in_ok-load.ensures.still
       (still_added (g.D.Interner.universe c.args.provider.now) c.args.self.now c.register.new.self c.requires.rest.rounds
-      c.in_ok-variable.ensures.registered.origins c.requires.rest.still);
+      c.in_ok-variable.ensures.registered.adds.origins c.requires.rest.still);
 }
 
 pub returns-in-Some : goal.returns-in-Some
@@ -49,7 +49,7 @@ returns-in-Some g c =
         rounds = c.in_ok-load.ensures.rounds;
         still = c.in_ok-load.ensures.still
             (still_added (g.D.Interner.universe c.args.provider.now) c.args.self.now c.register.new.self c.requires.rest.rounds
-            c.in_ok-variable.ensures.registered.origins c.requires.rest.still);
+            c.in_ok-variable.ensures.registered.adds.origins c.requires.rest.still);
       };
       turned = λ root taken refused seeds packages seed b.
           let u = g.D.Interner.universe c.args.provider.now in
@@ -58,12 +58,11 @@ returns-in-Some g c =
           let e = c.register.new.self in
           let new = c.load.new.self in
           let registered = c.in_ok-variable.ensures.registered in
-          let adds = registered_adds u s (notes_of old) (notes_in e) registered in
           let same = c.in_ok-load.ensures.same in
           let loaded = standing_loaded u root taken refused seeds packages (record old { encoding = e }) new
           (rounds_added u old e c.requires.rest.rounds
-          ((KeepsTrue-of {u = u} _ _ c.register.ensures.limits).answers c.requires.rest.rounds.answers) adds).variables same c.in_ok-load.ensures.turn
-          (standing_registered u root taken refused seeds packages old e c.requires.rest.rounds adds registered.exempt b s seed registered.only registered.asked) in
+          ((KeepsTrue-of {u = u} _ _ c.register.ensures.limits).answers c.requires.rest.rounds.answers) registered.adds).variables same c.in_ok-load.ensures.turn
+          (standing_registered u root taken refused seeds packages old e c.requires.rest.rounds registered.adds registered.exempt b s seed registered.only registered.asked) in
           let Stands : Encoding g.row.N.Denot g.row.S.Denot → Type 0 = λ x. slice_get (notes_in x).origins c.in_ok-variable.variable ≡ Some (SolvableOrigin s) in
           let At : Trail → Type 0 = λ t. slot_of t c.in_ok-variable.variable ≡ Some c.in-Some.slot in
           turned_from u root taken refused seeds packages s old new new c.in-Some.slot.value (ap chosen_in same.chosen)
@@ -71,7 +70,7 @@ returns-in-Some g c =
           (skipped u (lawful_solvables u g.S.PartialEq.eq (g.met.D.Interner.lawful_ids c.args.provider.now)
           (g.met.D.Interner.solvables_compare c.args.provider.now) g.met.D.Interner.solvables_are_values) g.N.PartialEq.eq g.met.D.Interner.names_are_values root
           taken refused seeds packages s c.in_ok-variable.variable c.in-Some.slot new c.in_ok-load.ensures.rounds c.in_ok-load.ensures.loaded.variables
-          (c.in_ok-load.ensures.still (still_added u old e c.requires.rest.rounds registered.origins c.requires.rest.still))
+          (c.in_ok-load.ensures.still (still_added u old e c.requires.rest.rounds registered.adds.origins c.requires.rest.still))
           (subst Stands (sym same.encoding) c.in_ok-variable.ensures.variable)
           (subst At c.trail.ensures (sym c.slot.ensures ∙ c.in-Some.is)) loaded);
       limits = room_trans c.args.self.now (record c.args.self.now { encoding = c.register.new.self }) c.load.new.self
@@ -90,12 +89,11 @@ returns-in_ok-is_chosen-in-None g c =
           let e = c.register.new.self in
           let mid = c.load.new.self in
           let registered = c.in_ok-variable.ensures.registered in
-          let adds = registered_adds u s (notes_of old) (notes_in e) registered in
           let same = c.in_ok-load.ensures.same in
           let loaded = standing_loaded u root taken refused seeds packages (record old { encoding = e }) mid
           (rounds_added u old e c.requires.rest.rounds
-          ((KeepsTrue-of {u = u} _ _ c.register.ensures.limits).answers c.requires.rest.rounds.answers) adds).variables same c.in_ok-load.ensures.turn
-          (standing_registered u root taken refused seeds packages old e c.requires.rest.rounds adds registered.exempt b s seed registered.only registered.asked) in
+          ((KeepsTrue-of {u = u} _ _ c.register.ensures.limits).answers c.requires.rest.rounds.answers) registered.adds).variables same c.in_ok-load.ensures.turn
+          (standing_registered u root taken refused seeds packages old e c.requires.rest.rounds registered.adds registered.exempt b s seed registered.only registered.asked) in
           let Seen : Encoding g.row.N.Denot g.row.S.Denot → Type 0 = λ x. Contains (notes_in x).seen s in
           turned_from u root taken refused seeds packages s old mid _ _ (ap chosen_in same.chosen) (ap (λ x. (notes_in x).exempt) same.encoding ∙ registered.exempt)
           (ap (λ x. (notes_in x).asked) same.encoding ∙ registered.asked)
