@@ -13,7 +13,7 @@ use Rattle.resolver_encoding.specs.Codes.{bit}
 use Rattle.resolver_encoding.specs.Encodings.{IsEncoding, Notes}
 use Rattle.resolver_encoding.specs.Groups.{IsAt}
 use Rattle.resolver_encoding.specs.Read.{AreApart, apart_coded}
-use Rattle.resolver_encoding.proofs.GroupLemmas.{number_of_named, same_number}
+use Rattle.resolver_encoding.proofs.GroupLemmas.{same_number}
 
 pub pow_grows : (i j : ℕ) → i ≤ j → 2 ^ i ≤ 2 ^ j
 pow_grows i j h = ⊎_elim
@@ -102,9 +102,9 @@ turned false false e = absurd cc
 pub apart_of_digits : {N S : Type 0} (u : Universe N S) (root : Demands) (notes : Notes N S) → IsEncoding u root notes → (s t : S) → Contains notes.seen s →
     Contains notes.seen t → u.name s ≡ u.name t → s ≢ t → AreApart notes.kinds (u.name s) s t
 apart_of_digits {N} {S} u root notes encoding s t one other same differ =
-    let At : N → Type 0 = λ n. IsAt notes.groups n (number_of_named notes.groups (u.name t) t (encoding.grouped t other)).0 t in
-    let first = number_of_named notes.groups (u.name s) s (encoding.grouped s one) in
-    let second = number_of_named notes.groups (u.name t) t (encoding.grouped t other) in
+    let first = encoding.grouped s one in
+    let second = encoding.grouped t other in
+    let At : N → Type 0 = λ n. IsAt notes.groups n second.0 t in
     by_number first.0 second.0 first.1 (subst At (sym same) second.1)
   where
     n : N
@@ -122,7 +122,7 @@ apart_of_digits {N} {S} u root notes encoding s t one other same differ =
         let Has : Bool → Type 0 = λ b. Contains notes.kinds (Implies t (Bit n w.0) b) in
         apart_coded w.0 (bit j w.0) (encoding.digits n j j s s at at w.0 w.1)
         (subst Has (turned (bit j w.0) (bit k w.0) w.2) (encoding.digits n k j t s to at w.0 w.1)))
-        (λ (not_more : j ≤ k). absurd (differ (same_number notes.groups n j k s t encoding.sound_groups at to (omega (arith, not_less, not_more)))))
+        (λ (not_more : j ≤ k). absurd (differ (same_number notes.groups n j k s t at to (omega (arith, not_less, not_more)))))
         (cases_lt k j))
         (cases_lt j k)
 

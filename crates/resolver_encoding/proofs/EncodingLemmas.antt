@@ -210,12 +210,10 @@ module _ {N S : Type 0} (u : Universe N S) where
         coded = λ n s i b h. ⊎_elim (λ earlier. before.coded n s i b earlier) (λ e. subst Prepared e next.prepared)
             (Contains-push_cases notes.kinds kind (Implies s (Bit n i) b) h);
         digits = λ n j k s t one other i below. within _ (before.digits n j k s t one other i below);
-        sound_groups = before.sound_groups;
         grouped = before.grouped;
         members = before.members;
         left_true = before.left_true;
         indexed = before.indexed;
-        sound_deferred_by_name = before.sound_deferred_by_name;
       }
 
   -- the notes stay an encoding if the premise holds

@@ -15,13 +15,13 @@ use Rattle.resolver_clause_store.specs.declared.VersionSetId.{VersionSetId}
 use Rattle.resolver_clause_store.proofs.PlaceLemmas.{place_cases, place_of_member}
 use Rattle.resolver_encoding.specs.Called.{Call, IsWantedBy}
 use Rattle.resolver_encoding.specs.Encodings.{IsAskStep, IsCallMade, IsEncoding, IsLeft, IsReadStep, IsTrueEntry, IsTrueUnder, Notes}
-use Rattle.resolver_encoding.specs.Groups.{AddsNamed, AreGroups, IsInGroup}
+use Rattle.resolver_encoding.specs.Groups.{AddsNamed, Groups, IsInGroup}
 use Rattle.resolver_encoding.specs.Notes.{entry_of}
 use Rattle.resolver_encoding.specs.ReadState.{Deferred, HasClause}
 use Rattle.resolver_encoding.specs.SoFar.{HasFired, HasMet, IsDeferral, IsFiring, IsIndexing, IsQuietAt, IsQuietUnder, IsTakenOut, left_count}
 use Rattle.resolver_clause_store.specs.Statements.{AllMeet}
 use Rattle.resolver_encoding.specs.declared.disjuncts.Entry.{Entry}
-use Rattle.resolver_encoding.specs.declared.groups.Groups.{Groups}
+use Rattle.resolver_encoding.proofs.GroupLemmas.{earlier_in}
 use Rattle.resolver_encoding.proofs.EncodingLemmas.{Extends-push, IsGrowth-same, IsGrowth-trans, IsReadStep-same}
 use Rattle.resolver_encoding.proofs.NoteLemmas.{All-grown_at}
 use Rattle.resolver_clause_store.proofs.ListLemmas.{Contains-at as place_in, Contains-map}
@@ -143,33 +143,29 @@ module _ {N S : Type 0} (u : Universe N S) where
       record {
         deferred_by_name = notes.deferred_by_name;
         is = refl;
-        sound = λ h. h;
-        earlier = λ h n i m. m;
-        here = λ h. All-nil (λ v. IsInGroup notes.deferred_by_name (u.version_set_name v) number);
+        earlier = λ n i m. m;
+        here = All-nil (λ v. IsInGroup notes.deferred_by_name (u.version_set_name v) number);
       }
 
   -- the number is indexed under the package of one more version set
   pub IsIndexing-more : (number : ℕ) (list : List VersionSetId) (i : ℕ) (d : VersionSetId) (old mid new : Notes N S) (n : N) →
       n ≡ u.version_set_name (get_or list i d) → i < length list → IsIndexing u number (take i list) old mid →
-      (AreGroups mid.deferred_by_name → AddsNamed mid.deferred_by_name new.deferred_by_name n number) →
+      AddsNamed mid.deferred_by_name new.deferred_by_name n number →
       new ≡ record mid { deferred_by_name = new.deferred_by_name } →
       IsIndexing u number (take (i + 1) list) old new
   IsIndexing-more number list i d old mid new n named below before adds is =
       let same : mid.deferred_by_name ≡ before.deferred_by_name = ap (λ (m : Notes N S). m.deferred_by_name) before.is in
-      let Sound : Groups N ℕ → Type 0 = λ g. AreGroups g in
-      let ready : AreGroups old.deferred_by_name → AreGroups mid.deferred_by_name = λ h. subst Sound (sym same) (before.sound h) in
       let Here : Groups N ℕ → Type 0 = λ g. All (λ v. IsInGroup g (u.version_set_name v) number) (take i list) in
       let Named : N → Type 0 = λ m. IsInGroup new.deferred_by_name m number in
       record {
         deferred_by_name = new.deferred_by_name;
         is = is ∙ ap (λ (m : Notes N S). record m { deferred_by_name = new.deferred_by_name }) before.is;
-        sound = λ h. (adds (ready h)).sound;
-        earlier = λ h m k at. let Is : Groups N ℕ → Type 0 = λ g. IsInGroup g m k in
-            (adds (ready h)).earlier m k (subst Is (sym same) (before.earlier h m k at));
-        here = λ h. All-grown_at (λ v. IsInGroup mid.deferred_by_name (u.version_set_name v) number)
+        earlier = λ m k at. let Is : Groups N ℕ → Type 0 = λ g. IsInGroup g m k in
+            earlier_in adds m k (subst Is (sym same) (before.earlier m k at));
+        here = All-grown_at (λ v. IsInGroup mid.deferred_by_name (u.version_set_name v) number)
             (λ v. IsInGroup new.deferred_by_name (u.version_set_name v) number) list i d
-            (λ v at. (adds (ready h)).earlier (u.version_set_name v) number at) below (subst Here (sym same) (before.here h))
-            (subst Named named (adds (ready h)).here);
+            (λ v at. earlier_in adds (u.version_set_name v) number at) below (subst Here (sym same) before.here)
+            (subst Named named (adds.number, adds.here));
       }
 
   pub IsDeferral-from : (number : ℕ) (e : Deferred S) (old mid new : Notes N S) → number ≡ length old.deferred → IsIndexing u number e.disjunct old mid →
@@ -179,18 +175,17 @@ module _ {N S : Type 0} (u : Universe N S) where
       record {
         deferred_by_name = before.deferred_by_name;
         is = is ∙ ap (λ (m : Notes N S). record m { deferred = m.deferred ++ Some e ∷ [] }) before.is;
-        sound = before.sound;
         earlier = before.earlier;
-        here = λ h. subst Here last (before.here h);
+        here = subst Here last before.here;
       }
 
   -- the notes stay an encoding with other deferred disjuncts
   encoding_deferred : (root : Demands) (old : Notes N S) (deferred : List (Option (Deferred S))) (deferred_by_name : Groups N ℕ) → IsEncoding u root old →
       ((e : Deferred S) → Contains deferred (Some e) → IsTrueEntry u root e) →
       ((i : ℕ) (e : Deferred S) → slice_get deferred i ≡ Some (Some e) → (v : VersionSetId) → Contains e.disjunct v →
-      IsInGroup deferred_by_name (u.version_set_name v) i) → AreGroups deferred_by_name →
+      IsInGroup deferred_by_name (u.version_set_name v) i) →
       IsEncoding u root (record old { deferred = deferred; deferred_by_name = deferred_by_name })
-  encoding_deferred root old deferred deferred_by_name before left_true indexed sound = search
+  encoding_deferred root old deferred deferred_by_name before left_true indexed = search
 
   -- a disjunct is deferred from then on
   pub deferral_left : (e : Deferred S) (old new : Notes N S) → IsDeferral u e old new → IsLeft new e
@@ -220,13 +215,12 @@ module _ {N S : Type 0} (u : Universe N S) where
           let Has : Deferred S → Type 0 = λ y. Contains y.disjunct v in
           let Named : ℕ → Type 0 = λ k. IsInGroup deferral.deferred_by_name (u.version_set_name v) k in
           ⊎_elim
-          (λ (earlier : slice_get old.deferred i ≡ Some (Some x)). deferral.earlier before.sound_deferred_by_name (u.version_set_name v) i
+          (λ (earlier : slice_get old.deferred i ≡ Some (Some x)). deferral.earlier (u.version_set_name v) i
           (before.indexed i x earlier v h))
           (λ (last : (i ≡ length old.deferred) × (Some e ≡ Some x)).
           subst Named (sym last.0) (All-contains (λ w. IsInGroup deferral.deferred_by_name (u.version_set_name w) (length old.deferred)) e.disjunct v
-          (deferral.here before.sound_deferred_by_name) (subst Has (sym (same_Some e x last.1)) h)))
+          deferral.here (subst Has (sym (same_Some e x last.1)) h)))
           (place_cases old.deferred (Some e) i (Some x) at))
-          (deferral.sound before.sound_deferred_by_name)
 
   -- the notes stay an encoding with fewer deferred disjuncts
   pub IsEncoding-taken : (root : Demands) (number : ℕ) (e : Deferred S) (old mid : Notes N S) → IsTakenOut number e old mid → IsEncoding u root old →
@@ -236,8 +230,7 @@ module _ {N S : Type 0} (u : Universe N S) where
       subst Right (sym out.is) (encoding_deferred root old (slice_set old.deferred number None) old.deferred_by_name before
       (λ x h. let at = place_of_member (slice_set old.deferred number None) (Some x) h in
       before.left_true x (place_in old.deferred at.0 (Some x) (kept old.deferred number at.0 x at.1)))
-      (λ i x at. before.indexed i x (kept old.deferred number i x at))
-      before.sound_deferred_by_name)
+      (λ i x at. before.indexed i x (kept old.deferred number i x at)))
 
   module _ (set : List S) where
     pub IsFiring-trans : (one two three : Notes N S) → IsFiring u set one two → IsFiring u set two three → IsFiring u set one three
@@ -326,9 +319,6 @@ module _ {N S : Type 0} (u : Universe N S) where
             quiet = λ i named. let Named : Groups N ℕ → Type 0 = λ g. IsInGroup g n i in
                 All-contains (IsQuietAt u set new) numbers i quiet (every i (subst Named firing.deferred_by_name named));
           }
-
-      pub groups_kept : AreGroups old.deferred_by_name → AreGroups new.deferred_by_name
-      groups_kept sound = let Sound : Groups N ℕ → Type 0 = λ g. AreGroups g in subst Sound (sym firing.deferred_by_name) sound
 
   -- no disjunct with a version set of a package of one of these solvables is due
   pub record AreQuiet (set : List S) (notes : Notes N S) (from place : ℕ) : Type 0 where

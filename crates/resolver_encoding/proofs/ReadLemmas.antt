@@ -39,7 +39,6 @@ use Rattle.resolver_clause_store.proofs.PlaceLemmas.{place_cases}
 use Rattle.resolver_encoding.proofs.EncodingLemmas.{HasGate-within, IsForbidden-within}
 use Rattle.resolver_encoding.proofs.CodeLemmas.{apart_of_digits}
 use Rattle.resolver_clause_store.proofs.ListLemmas.{Contains-cons_cases as cons_cases, Contains-here as here, Contains-none as none_in, Contains-there as there}
-use Rattle.resolver_encoding.proofs.GroupLemmas.{named_of_number as IsNamed-at}
 
 pub not_in : {X : Type 0} (xs : List X) (x : X) → xs ≡ [] → Contains xs x → ⊥
 not_in {X} xs x e h = let Has : List X → Type 0 = λ list. Contains list x in none_in x (subst Has e h)
@@ -200,16 +199,14 @@ module _ {N S : Type 0} (u : Universe N S) where
         locks = λ s t h. absurd (not_in old.asked (u.name s) unread.none_asked h);
         exclusions = λ s reason h. absurd (not_in old.asked (u.name s) unread.none_asked h);
         registered = λ s h. absurd (not_in old.seen s unread.none_seen h);
-        placed = λ n k s at. absurd (unread.no_groups n s (IsNamed-at old.groups n k s at));
+        placed = λ n k s at. absurd (unread.no_groups n s (k, at));
         coding = λ c h. absurd (none_in c h);
         coded = λ n s i b h. absurd (not_there (Implies s (Bit n i) b) (λ q. cc) h);
-        digits = λ n j k s t at. absurd (unread.no_groups n s (IsNamed-at old.groups n j s at));
-        sound_groups = unread.sound_groups;
+        digits = λ n j k s t at. absurd (unread.no_groups n s (j, at));
         grouped = λ s h. absurd (not_in old.seen s unread.none_seen h);
         members = λ n s h. absurd (unread.no_groups n s h);
         left_true = λ e h. absurd (not_in old.deferred (Some e) unread.none_deferred h);
         indexed = λ i e at. absurd (none_at old.deferred i (Some e) unread.none_deferred at);
-        sound_deferred_by_name = unread.sound_deferred_by_name;
       })
     where
       root_at : slice_get new.origins 0 ≡ Some Root

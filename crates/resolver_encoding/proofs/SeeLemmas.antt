@@ -16,11 +16,10 @@ use Rattle.resolver_encoding.specs.Called.{Call, IsSeeing, to_ask, to_see}
 use Rattle.resolver_encoding.specs.Codes.{bit}
 use Rattle.resolver_encoding.specs.Encodings.{AddsKind, Coding, Extends, IsAskStep, IsCallMade, IsEncoding, IsEncodingWhile, IsStepWhile}
 use Rattle.resolver_encoding.specs.Encodings.{Notes, coding_for}
-use Rattle.resolver_encoding.specs.Groups.{AddsNamed, AreGroups, IsAt, IsInGroup}
-use Rattle.resolver_encoding.specs.declared.groups.Groups.{Groups}
+use Rattle.resolver_encoding.specs.Groups.{AddsNamed, Groups, IsAt, IsInGroup}
 use Rattle.resolver_encoding.specs.Truth.{AreCodes, IsTrueClause}
 use Rattle.resolver_encoding.proofs.EncodingLemmas.{Extends-push, IsStep-clause, IsWithin-push}
-use Rattle.resolver_encoding.proofs.GroupLemmas.{named_of_number, number_is}
+use Rattle.resolver_encoding.proofs.GroupLemmas.{earlier_in, number_is, only_in}
 use Rattle.resolver_encoding.proofs.CodeLemmas.{no_digit, pow_same}
 use Rattle.resolver_encoding.proofs.NoteLemmas.{IsStep-kind, holds_also}
 use Rattle.resolver_clause_store.proofs.ListLemmas.{Contains-at as place_in, Contains-cons_cases as cons_cases, Contains-here as here, Contains-none as none_in}
@@ -120,7 +119,7 @@ module _ {N S : Type 0} (u : Universe N S) where
         (start.coded m t i b (subst Has is (Contains-get_or old.kinds p d below))))
         (start.each_true p d below) in
         let placed = λ (m : N) (j : ℕ) (t : S) (at : IsAt old.groups m j t) (i : ℕ).
-        let member = start.members m t (named_of_number old.groups m j t at) in
+        let member = start.members m t (j, at) in
         coded_as_before start.codes m i t (λ same. absent (subst Seen same member.1)) ∙ start.placed m j t at i in
         let one : Coding N S = record { name = n; number = k; instance = s } in
         let coding = λ (c : Coding N S) (h : Contains (one ∷ []) c) (i : ℕ).
@@ -140,12 +139,12 @@ module _ {N S : Type 0} (u : Universe N S) where
 
     -- an earlier solvable has the digit that begins with the new number, and it is not set
     pub IsStep-begun : (old new : Notes N S) (i j : ℕ) (t : S) → AddsKind u (Implies t (Bit n i) false) old new → k ≡ 2 ^ i →
-        (AreGroups old.groups → j < k) → IsAt old.groups n j t → IsStepWhile u (coding_for n k s) (λ root. ⊤) old new
+        j < k → IsAt old.groups n j t → IsStepWhile u (coding_for n k s) (λ root. ⊤) old new
     IsStep-begun old new i j t adds begins below at =
         IsStep-clause u (coding_for n k s) (λ root. ⊤) old new (Implies t (Bit n i) false) adds
         (λ root _ before.
-        let member = before.members n t (named_of_number old.groups n j t at) in
-        let less : j < 2 ^ i = omega (arith, begins, below before.sound_groups) in
+        let member = before.members n t (j, at) in
+        let less : j < 2 ^ i = omega (arith, begins, below) in
         record {
           is_true = λ codes has. (member.0, has.placed n j t at i ∙ no_digit j i less);
           due = tt;
@@ -163,13 +162,13 @@ module _ {N S : Type 0} (u : Universe N S) where
     pub IsStep-seen : (old mid new : Notes N S) (groups : Groups N S) (list : List S) → u.name s ≡ n → (Contains old.seen s → ⊥) →
         IsStepWhile u (coding_for n k s) (λ root. ⊤) old mid → mid.groups ≡ old.groups → mid.seen ≡ old.seen →
         new ≡ record mid { seen = mid.seen ++ s ∷ []; groups = groups } →
-        (AreGroups mid.groups → AddsNamed mid.groups groups n s) → Contains mid.origins (Solvable s) →
+        AddsNamed mid.groups groups n s → Contains mid.origins (Solvable s) →
         ((j : ℕ) (t : S) → slice_get list j ≡ Some t → IsAt old.groups n j t) →
-        (AreGroups old.groups → (j : ℕ) (t : S) → IsAt old.groups n j t → slice_get list j ≡ Some t) → k ≡ length list →
+        ((j : ℕ) (t : S) → IsAt old.groups n j t → slice_get list j ≡ Some t) → k ≡ length list →
         ((i : ℕ) → 2 ^ i ≤ k → Contains mid.kinds (Implies s (Bit n i) (bit k i))) →
-        ((i : ℕ) → k ≡ 2 ^ i → AreGroups old.groups → (j : ℕ) (t : S) → IsAt old.groups n j t → Contains mid.kinds (Implies t (Bit n i) (bit j i))) →
+        ((i : ℕ) → k ≡ 2 ^ i → (j : ℕ) (t : S) → IsAt old.groups n j t → Contains mid.kinds (Implies t (Bit n i) (bit j i))) →
         IsAskStep u (IsSeeing s) (λ root. ⊤) old new
-    IsStep-seen old mid new groups list name absent step same_groups same_seen e adds has each every count own begun =
+    IsStep-seen old mid new groups list name absent step same_groups same_seen e added has each every count own begun =
         let Step : Notes N S → Type 0 = λ m. IsAskStep u (IsSeeing s) (λ root. ⊤) old m in
         let Longer : List S → Type 0 = λ list. Extends old.seen (list ++ s ∷ []) in
         let seen = subst Longer (sym step.seen) (Extends-push old.seen s) in
@@ -178,16 +177,12 @@ module _ {N S : Type 0} (u : Universe N S) where
         At : Groups N S → N → ℕ → S → Type 0
         At gs m j t = IsAt gs m j t
 
-        Sound : Groups N S → Type 0
-        Sound gs = AreGroups gs
-
         -- an earlier solvable has the digits of the new number: a digit began with it, or was there before
         earlier_digit : {root : Demands} → IsEncodingWhile u (coding_for n k s) root mid → (j : ℕ) (t : S) → IsAt mid.groups n j t → (i : ℕ) → 2 ^ i ≤ k →
             Contains mid.kinds (Implies t (Bit n i) (bit j i))
         earlier_digit before j t at i reached =
-            let sound : AreGroups old.groups = subst (λ gs. AreGroups gs) same_groups before.sound_groups in
             ⊎_elim
-            (λ (begins : k ≡ 2 ^ i). begun i begins sound j t (subst (λ gs. IsAt gs n j t) same_groups at))
+            (λ (begins : k ≡ 2 ^ i). begun i begins j t (subst (λ gs. IsAt gs n j t) same_groups at))
             (λ (differ : k ≢ 2 ^ i).
             let less : k - 1 < length list = omega (arith, count, reached, differ) in
             let last : IsAt mid.groups n (k - 1) (get_or list (k - 1) s) =
@@ -198,11 +193,9 @@ module _ {N S : Type 0} (u : Universe N S) where
         keeps : (root : Demands) → ⊤ → IsEncoding u root old → IsEncoding u root (record mid { seen = mid.seen ++ s ∷ []; groups = groups })
         keeps root premise start =
             let before = step.keeps root tt (coding_opened root old name absent start) in
-            let added = adds before.sound_groups in
-            let sound : AreGroups old.groups = subst Sound same_groups before.sound_groups in
             let number : added.number ≡ k = number_is mid.groups groups n s list added
             (λ j t at. subst (λ gs. At gs n j t) (sym same_groups) (each j t at))
-            (λ j t at. every sound j t (subst (λ gs. At gs n j t) same_groups at)) ∙ sym count in
+            (λ j t at. every j t (subst (λ gs. At gs n j t) same_groups at)) ∙ sym count in
             let more = IsWithin-push mid.seen s in
             let Seen : S → Type 0 = λ t. Contains (mid.seen ++ s ∷ []) t in
             let Has : S → Type 0 = λ t. Contains mid.origins (Solvable t) in
@@ -214,7 +207,7 @@ module _ {N S : Type 0} (u : Universe N S) where
             let here_coded : before.codes n i s ≡ bit k i =
             before.coding (record { name = n; number = k; instance = s }) (here (record { name = n; number = k; instance = s }) []) i in
             subst (λ q. Coded q j t) (sym is.0) (subst (λ a. Coded n a t) (sym (is.1 ∙ number)) (subst (λ r. Coded n k r) (sym is.2) here_coded)))
-            (added.only_at m j t at) in
+            (added.only m j t at) in
             let coding : (c : Coding N S) → Contains [] c → (i : ℕ) → before.codes c.name i c.instance ≡ bit c.number i = λ c h i. absurd (none_in c h) in
             let coded : (m : N) (t : S) (i : ℕ) (b : Bool) → Contains mid.kinds (Implies t (Bit m i) b) → Seen t ⊎ Contains [] t =
             λ m t i b h. inl (⊎_elim (λ seen. more t seen) (λ own_one. ⊎_elim
@@ -228,23 +221,23 @@ module _ {N S : Type 0} (u : Universe N S) where
             let Digit : N → Type 0 = λ q. Contains mid.kinds (Implies t (Bit q i) (bit j i)) in
             let up_to : 2 ^ i ≤ k = omega (arith, reached, is.1, number) in
             subst Digit (sym is.0) (earlier_digit before j t (subst (λ q. At mid.groups q j t) is.0 t_before) i up_to))
-            (added.only_at m p r to))
+            (added.only m p r to))
             (λ (is : (m ≡ n) × (j ≡ added.number) × (t ≡ s)).
             let Digit : N → ℕ → S → Type 0 = λ q a x. Contains mid.kinds (Implies x (Bit q i) (bit a i)) in
             let largest : p ≤ k = ⊎_elim
             (λ (r_before : IsAt mid.groups m p r). let less : p < added.number = added.below p r (subst (λ q. At mid.groups q p r) is.0 r_before) in
             omega (arith, less, number))
             (λ (last : (m ≡ n) × (p ≡ added.number) × (r ≡ s)). omega (arith, last.1, number))
-            (added.only_at m p r to) in
+            (added.only m p r to) in
             subst (λ q. Digit q j t) (sym is.0)
             (subst (λ a. Digit n a t) (sym (is.1 ∙ number)) (subst (λ x. Digit n k x) (sym is.2) (own i (omega (arith, reached, largest))))))
-            (added.only_at m j t at) in
+            (added.only m j t at) in
             let Named : S → Type 0 = λ q. IsInGroup groups (u.name q) q in
             let Of : N → Type 0 = λ m. IsInGroup groups m s in
-            let grouped = holds_also Named mid.seen s (λ t earlier. added.earlier (u.name t) t (before.grouped t earlier)) (subst Of (sym name) added.here) in
+            let grouped = holds_also Named mid.seen s (λ t earlier. earlier_in added (u.name t) t (before.grouped t earlier)) (subst Of (sym name) (added.number, added.here)) in
             let members : (m : N) (t : S) → IsInGroup groups m t → (u.name t ≡ m) × Seen t =
             λ m t h. ⊎_elim
             (λ earlier. let w = before.members m t earlier in (w.0, more t w.1))
             (λ (is : (m ≡ n) × (t ≡ s)). (ap u.name is.1 ∙ name ∙ sym is.0, subst Seen (sym is.1) (Contains-push mid.seen s)))
-            (added.only m t h) in
-            search (added.sound, before.candidates)
+            (only_in added m t h) in
+            search (before.candidates)

@@ -6,10 +6,10 @@ use Rattle.std.proofs.lemmas.List.Elements.{Contains-append_left, Contains-push,
 use Rattle.resolver_clause_store.specs.declared.Helper.{Helper as HelperOf}
 use Rattle.resolver_clause_store.specs.declared.ClauseKind.{ClauseKind}
 use Rattle.resolver_clause_store.specs.declared.ClauseKind.TheVariants.{InstallRoot, Implies}
-use Rattle.resolver_encoding.specs.Groups.{AddsNamed, AreGroups, IsInGroup}
+use Rattle.resolver_encoding.specs.Groups.{AddsNamed, Groups, IsInGroup}
 use Rattle.resolver_encoding.specs.Sources.{AreSources}
-use Rattle.resolver_encoding.specs.declared.groups.Groups.{Groups}
 use Rattle.resolver_clause_store.proofs.ListLemmas.{Contains-none as none_in}
+use Rattle.resolver_encoding.proofs.GroupLemmas.{earlier_in, only_in}
 use Rattle.resolver_encoding.specs.Values.{kinds_at}
 
 module _ {N S : Type 0} (kinds : List (ClauseKind N S)) (k : ClauseKind N S) where
@@ -17,7 +17,6 @@ module _ {N S : Type 0} (kinds : List (ClauseKind N S)) (k : ClauseKind N S) whe
   pub sources_same : (sources : Groups (HelperOf N) S) → ((h : HelperOf N) (s : S) → k ≡ Implies s h true → ⊥) → AreSources kinds sources →
       AreSources (kinds ++ k ∷ []) sources
   sources_same sources none are = record {
-    groups = are.groups;
     only = λ h s n. Contains-append_left kinds (k ∷ []) _ (are.only h s n);
     every = λ h s i. ⊎_elim (λ a. are.every h s a) (λ e. absurd (none h s e)) (Contains-push_cases kinds k (Implies s h true) i);
   }
@@ -30,14 +29,13 @@ module _ {N S : Type 0} (kinds : List (ClauseKind N S)) (k : ClauseKind N S) whe
       let Has : ClauseKind N S → Type 0 = λ q. Contains (kinds ++ k ∷ []) q in
       let Of : HelperOf N → S → ClauseKind N S = λ g t. Implies t g true in
       record {
-        groups = adds.sound;
         only = λ g t n. ⊎_elim
             (λ a. Contains-append_left kinds (k ∷ []) _ (are.only g t a))
             (λ (e : (g ≡ h) × (t ≡ s)). let same : k ≡ Of g t = cc in subst Has same (Contains-push kinds k))
-            (adds.only g t n);
+            (only_in adds g t n);
         every = λ g t i. ⊎_elim
-            (λ a. adds.earlier g t (are.every g t a))
-            (λ (e : k ≡ Implies t g true). let key : h ≡ g = cc in let one : s ≡ t = cc in subst (λ x. New x t) key (subst (λ x. New h x) one adds.here))
+            (λ a. earlier_in adds g t (are.every g t a))
+            (λ (e : k ≡ Implies t g true). let key : h ≡ g = cc in let one : s ≡ t = cc in subst (λ x. New x t) key (subst (λ x. New h x) one (adds.number, adds.here)))
             (Contains-push_cases kinds k (Implies t g true) i);
       }
 
@@ -58,10 +56,8 @@ sources_next {N} {S} kinds numbers i n k sources below is kind_is are =
     subst Are (sym (kinds_next kinds numbers i n k below is kind_is)) are
 
 -- without clauses there are no sources
-pub no_sources : {N S : Type 0} (sources : Groups (HelperOf N) S) → AreGroups sources → ((h : HelperOf N) (s : S) → IsInGroup sources h s → ⊥) →
-    AreSources [] sources
-no_sources sources groups none = record {
-  groups = groups;
+pub no_sources : {N S : Type 0} (sources : Groups (HelperOf N) S) → ((h : HelperOf N) (s : S) → IsInGroup sources h s → ⊥) → AreSources [] sources
+no_sources sources none = record {
   only = λ h s n. absurd (none h s n);
   every = λ h s i. absurd (none_in (Implies s h true) i);
 }

@@ -15,10 +15,9 @@ use Rattle.resolver_encoding.specs.Atoms.{IsStated, states_requires, states_cons
 use Rattle.resolver_encoding.specs.Atoms.{states_excluded}
 use Rattle.resolver_encoding.specs.Core.{IsExplained, implied_in}
 use Rattle.resolver_encoding.specs.Encodings.{IsEncoding, Notes}
-use Rattle.resolver_encoding.specs.Groups.{IsInGroup}
+use Rattle.resolver_encoding.specs.Groups.{Groups, IsInGroup}
 use Rattle.resolver_encoding.specs.Listing.{AreRulesOf, SomeOf, States}
 use Rattle.resolver_encoding.specs.Sources.{AreSources}
-use Rattle.resolver_encoding.specs.declared.groups.Groups.{Groups}
 use Rattle.resolver_clause_store.specs.Statements.{Statement, statement_of}
 use Rattle.resolver_encoding.specs.Truth.{AreCodes, AreListed, AreStated, IsTrueClause, HasLawfulSolvables}
 use Rattle.resolver_encoding.specs.Values.{AreEncoded, kinds_at}

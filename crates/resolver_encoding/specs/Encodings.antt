@@ -23,13 +23,12 @@ use Rattle.resolver_clause_store.specs.Statements.{AllMeet}
 use Rattle.resolver_clause_store.specs.TrueRules.{demands_by, Implies}
 use Rattle.resolver_encoding.specs.Atoms.{Atom, Disjunct}
 use Rattle.resolver_encoding.specs.Called.{Call, to_ask, to_see}
-use Rattle.resolver_encoding.specs.Groups.{AreGroups, IsAt, IsInGroup}
+use Rattle.resolver_encoding.specs.Groups.{Groups, IsAt, IsInGroup}
 use Rattle.resolver_encoding.specs.Codes.{bit}
 use Rattle.resolver_encoding.specs.Read.{HasGate, IsForbidden}
 use Rattle.resolver_encoding.specs.ReadState.{Deferred, HasClause, IsReadRequirement}
 use Rattle.resolver_encoding.specs.Truth.{AreCodes, AreDue, IsTrueClause}
 use Rattle.resolver_encoding.specs.Values.{AreEncoded, IsAtom, IsClauseOf}
-use Rattle.resolver_encoding.specs.declared.groups.Groups.{Groups}
 
 -- The view of an encoding: the origin of each variable; the literals and the kind of each clause; the registered candidates, and the same by package name; the packages that were asked; the
 -- version sets of conditions whose helpers have their clauses; the requirements that have a gate; the version sets of
@@ -133,14 +132,12 @@ pub record IsEncodingWhile {N S : Type 0} (u : Universe N S) (doing : Doing N S)
   pub digits : (n : N) (j k : ℕ) (s t : S) → IsAt notes.groups n j s → IsAt notes.groups n k t → (i : ℕ) → 2 ^ i ≤ k →
       Contains notes.kinds (ImpliesKind s (Bit n i) (bit j i))
   -- each registered solvable is in the group of its name, and no other solvable is in a group
-  pub sound_groups : AreGroups notes.groups
   pub grouped : (s : S) → Contains notes.seen s → IsInGroup notes.groups (u.name s) s
   pub members : (n : N) (s : S) → IsInGroup notes.groups n s → (u.name s ≡ n) × Contains notes.seen s
   -- for each deferred disjunct
   pub left_true : (e : Deferred S) → IsLeft notes e → IsTrueEntry u root e
   pub indexed : (i : ℕ) (e : Deferred S) → slice_get notes.deferred i ≡ Some (Some e) → (v : VersionSetId) → Contains e.disjunct v →
       IsInGroup notes.deferred_by_name (u.version_set_name v) i
-  pub sound_deferred_by_name : AreGroups notes.deferred_by_name
 
 -- the notes are an encoding, and no work is in progress
 abbrev pub IsEncoding : {N S : Type 0} → Universe N S → Demands → Notes N S → Type 0
@@ -230,7 +227,6 @@ pub record IsUnread {N S : Type 0} (notes : Notes N S) : Type 0 where
   pub no_table : notes.table ≡ []
   pub no_kinds : notes.kinds ≡ []
   pub none_seen : notes.seen ≡ []
-  pub sound_groups : AreGroups notes.groups
   pub no_groups : (n : N) (s : S) → IsInGroup notes.groups n s → ⊥
   pub none_asked : notes.asked ≡ []
   pub none_helped : notes.helped ≡ []
@@ -238,7 +234,6 @@ pub record IsUnread {N S : Type 0} (notes : Notes N S) : Type 0 where
   pub none_constrained : notes.constrained ≡ []
   pub none_read : notes.read ≡ []
   pub none_deferred : notes.deferred ≡ []
-  pub sound_deferred_by_name : AreGroups notes.deferred_by_name
 
 -- literals with these atoms were appended
 pub record Adds {N S : Type 0} (origins : List (Origin N S)) (old new : List Literal) (atoms : List (Atom N S)) : Type 0 where

@@ -1,39 +1,33 @@
 -- Solvables grouped by the names of their packages.
-use Rattle.std.specs.Prelude.{ℕ, ◌≡◌, ◌<◌, ◌⊎◌, List, Some, Contains, length, slice_get}
+use Rattle.std.specs.Prelude.{ℕ, ◌≡◌, ◌<◌, ◌≤◌, ◌⊎◌, List, [], Some, length, slice_get}
 use Rattle.resolver_clause_store.specs.NumberedLists.{list_of}
 use Rattle.resolver_clause_store.specs.Variables.{AreDistinct}
-use Rattle.resolver_encoding.specs.declared.groups.Groups.{Groups}
 
--- the group at this place, empty if there is none
-abbrev pub group_at : {S : Type 0} → List (List S) → ℕ → List S
-group_at groups place = list_of groups place
+-- the names, and the group of each by the place of its name
+pub record Groups (N S : Type 0) : Type 0 where
+  pub names : List N
+  pub members : List (List S)
 
--- each name has one group
-pub record AreGroups {N S : Type 0} (g : Groups N S) : Type 0 where
-  pub count : length g.members ≡ length g.names.keys
-  pub distinct : AreDistinct g.names.keys
-
--- the solvable is in the group of the name
-pub record IsInGroup {N S : Type 0} (g : Groups N S) (n : N) (s : S) : Type 0 where
-  pub place : ℕ
-  pub named : slice_get g.names.keys place ≡ Some n
-  pub inside : Contains (group_at g.members place) s
+-- each name has one group, and there are no other groups
+pub record AreSound {N S : Type 0} (names : List N) (members : List (List S)) : Type 0 where
+  pub distinct : AreDistinct names
+  pub unused : (place : ℕ) → length names ≤ place → list_of members place ≡ []
 
 -- the solvable has this number in the group of the name
 pub record IsAt {N S : Type 0} (g : Groups N S) (n : N) (number : ℕ) (s : S) : Type 0 where
   pub place : ℕ
-  pub named : slice_get g.names.keys place ≡ Some n
-  pub at : slice_get (group_at g.members place) number ≡ Some s
+  pub named : slice_get g.names place ≡ Some n
+  pub only : (other : ℕ) → slice_get g.names other ≡ Some n → other ≡ place
+  pub at : slice_get (list_of g.members place) number ≡ Some s
 
--- one more solvable is in the group of the name
+-- the solvable is in the group of the name
+abbrev pub IsInGroup : {N S : Type 0} → Groups N S → N → S → Type 0
+IsInGroup g n s = (number : ℕ) × IsAt g n number s
+
+-- one more solvable is in the group of the name; its number follows the others
 pub record AddsNamed {N S : Type 0} (old new : Groups N S) (n : N) (s : S) : Type 0 where
-  pub sound : AreGroups new
-  pub earlier : (m : N) (t : S) → IsInGroup old m t → IsInGroup new m t
-  pub here : IsInGroup new n s
-  pub only : (m : N) (t : S) → IsInGroup new m t → IsInGroup old m t ⊎ ((m ≡ n) × (t ≡ s))
-  -- its number follows those of its group, and the others keep theirs
   pub number : ℕ
-  pub here_at : IsAt new n number s
-  pub earlier_at : (m : N) (k : ℕ) (t : S) → IsAt old m k t → IsAt new m k t
-  pub only_at : (m : N) (k : ℕ) (t : S) → IsAt new m k t → IsAt old m k t ⊎ ((m ≡ n) × (k ≡ number) × (t ≡ s))
+  pub here : IsAt new n number s
+  pub earlier : (m : N) (k : ℕ) (t : S) → IsAt old m k t → IsAt new m k t
+  pub only : (m : N) (k : ℕ) (t : S) → IsAt new m k t → IsAt old m k t ⊎ ((m ≡ n) × (k ≡ number) × (t ≡ s))
   pub below : (k : ℕ) (t : S) → IsAt old n k t → k < number

@@ -8,11 +8,10 @@ use Rattle.resolver_clause_store.specs.declared.Helper.TheVariants.{Bit, Gate, C
 use Rattle.resolver_clause_store.specs.declared.ClauseKind.{ClauseKind}
 use Rattle.resolver_clause_store.specs.declared.ClauseKind.TheVariants.{InstallRoot, Requires, Implies, Constrains, Lock, Excluded}
 use Rattle.resolver_clause_store.specs.declared.Rule.{Rule}
-use Rattle.resolver_encoding.specs.Groups.{IsInGroup}
+use Rattle.resolver_encoding.specs.Groups.{Groups, IsInGroup}
 use Rattle.resolver_clause_store.specs.Statements.{Statement, requires, constrains, lock, excluded, one_per_package, statement_of}
 use Rattle.resolver_encoding.specs.declared.listing.Listing.{Listing}
 use Rattle.resolver_encoding.specs.declared.listing.Instance.{Instance}
-use Rattle.resolver_encoding.specs.declared.groups.Groups.{Groups}
 
 -- a rule of the list states it
 abbrev pub IsStatedBy : {N S : Type 0} → List (Rule N S) → Statement N S → Type 0

@@ -11,11 +11,10 @@ use Rattle.resolver_clause_store.specs.declared.Origin.TheVariants.{Solvable}
 use Rattle.resolver_clause_store.specs.Statements.{IsPresent, AllMeet}
 use Rattle.resolver_encoding.specs.Called.{Call, IsDemanded, IsWantedBy}
 use Rattle.resolver_encoding.specs.Encodings.{AreDemandsRead, AreNeedsRead, Extends, IsCallMade, IsEncoding, IsGrowth, IsLeft, Notes}
-use Rattle.resolver_encoding.specs.Groups.{AreGroups, IsInGroup}
+use Rattle.resolver_encoding.specs.Groups.{Groups, IsInGroup}
 use Rattle.resolver_encoding.specs.Hints.{IsListedFrom}
 use Rattle.resolver_encoding.specs.Reach.{AreNear}
 use Rattle.resolver_encoding.specs.ReadState.{Deferred, HasClause, NoneFires}
-use Rattle.resolver_encoding.specs.declared.groups.Groups.{Groups}
 use Rattle.resolver_encoding.specs.declared.progress.Progress.{Progress}
 use Rattle.resolver_encoding.specs.declared.progress.Progress.TheVariants.{Nothing, Fired, Read}
 
@@ -88,17 +87,15 @@ IsProgress old new Read = length old.read < length new.read
 pub record IsIndexing {N S : Type 0} (u : Universe N S) (number : ℕ) (list : List VersionSetId) (old new : Notes N S) : Type 0 where
   pub deferred_by_name : Groups N ℕ
   pub is : new ≡ record old { deferred_by_name = deferred_by_name }
-  pub sound : AreGroups old.deferred_by_name → AreGroups deferred_by_name
-  pub earlier : AreGroups old.deferred_by_name → (n : N) (i : ℕ) → IsInGroup old.deferred_by_name n i → IsInGroup deferred_by_name n i
-  pub here : AreGroups old.deferred_by_name → All (λ v. IsInGroup deferred_by_name (u.version_set_name v) number) list
+  pub earlier : (n : N) (i : ℕ) → IsInGroup old.deferred_by_name n i → IsInGroup deferred_by_name n i
+  pub here : All (λ v. IsInGroup deferred_by_name (u.version_set_name v) number) list
 
 -- one more disjunct was deferred
 pub record IsDeferral {N S : Type 0} (u : Universe N S) (e : Deferred S) (old new : Notes N S) : Type 0 where
   pub deferred_by_name : Groups N ℕ
   pub is : new ≡ record old { deferred_by_name = deferred_by_name; deferred = old.deferred ++ Some e ∷ [] }
-  pub sound : AreGroups old.deferred_by_name → AreGroups deferred_by_name
-  pub earlier : AreGroups old.deferred_by_name → (n : N) (i : ℕ) → IsInGroup old.deferred_by_name n i → IsInGroup deferred_by_name n i
-  pub here : AreGroups old.deferred_by_name → All (λ v. IsInGroup deferred_by_name (u.version_set_name v) (length old.deferred)) e.disjunct
+  pub earlier : (n : N) (i : ℕ) → IsInGroup old.deferred_by_name n i → IsInGroup deferred_by_name n i
+  pub here : All (λ v. IsInGroup deferred_by_name (u.version_set_name v) (length old.deferred)) e.disjunct
 
 -- the deferred disjunct with this number was removed
 pub record IsTakenOut {N S : Type 0} (number : ℕ) (e : Deferred S) (old new : Notes N S) : Type 0 where

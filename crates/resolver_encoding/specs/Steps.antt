@@ -19,7 +19,7 @@ use Rattle.resolver_encoding.specs.Called.{AreAsked, Call, IsAsking, IsCalledBy,
 use Rattle.resolver_encoding.specs.Codes.{bit}
 use Rattle.resolver_encoding.specs.Encodings.{Doing, HasConstraint, HasConstraints, HasPlainRequirement, HasRequirement, HasRequirements, IsAskStep}
 use Rattle.resolver_encoding.specs.Encodings.{IsReadStep, IsStepWhile, IsTrueUnder, IsUnmet, Notes}
-use Rattle.resolver_encoding.specs.Groups.{AreGroups, IsAt}
+use Rattle.resolver_encoding.specs.Groups.{IsAt}
 use Rattle.resolver_encoding.specs.Reach.{AreNear}
 use Rattle.resolver_encoding.specs.ReadState.{Deferred}
 use Rattle.resolver_encoding.specs.SoFar.{IsQuietUnder, IsReadSoFar}
@@ -42,7 +42,7 @@ HasLock {N} {S} s listed locked old new = (t : S) → locked ≡ Some t → Cont
 
 -- if the number is the first one that has a digit, that digit has its clauses for the earlier numbers under the name
 abbrev pub HasBegun : {N S : Type 0} → N → ℕ → Notes N S → Notes N S → Type 0
-HasBegun {N} {S} n number old new = (i : ℕ) → number ≡ 2 ^ i → AreGroups old.groups → (k : ℕ) (t : S) → IsAt old.groups n k t →
+HasBegun {N} {S} n number old new = (i : ℕ) → number ≡ 2 ^ i → (k : ℕ) (t : S) → IsAt old.groups n k t →
     Contains new.kinds (Implies t (Bit n i) (bit k i))
 
 module _ {N S : Type 0} (u : Universe N S) where
@@ -100,10 +100,10 @@ module _ {N S : Type 0} (u : Universe N S) where
 
     -- no disjunct is due that is noted under the package of this solvable, or of the solvables from this place on
     abbrev pub IsQuietFor : S → Notes N S → Notes N S → Type 0
-    IsQuietFor s old new = AreGroups old.deferred_by_name → IsQuietUnder u set new (u.name s)
+    IsQuietFor s old new = IsQuietUnder u set new (u.name s)
 
     abbrev pub IsQuietFrom : ℕ → Notes N S → Notes N S → Type 0
-    IsQuietFrom from old new = AreGroups old.deferred_by_name → All (λ s. IsQuietUnder u set new (u.name s)) (drop from set)
+    IsQuietFrom from old new = All (λ s. IsQuietUnder u set new (u.name s)) (drop from set)
 
     -- besides those before, the packages that were asked are exactly those that what was read demands in the set
     abbrev pub AsksCalled : Demands → List N → Notes N S → Type 0

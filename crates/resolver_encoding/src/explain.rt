@@ -10,7 +10,6 @@ ghost use Rattle.resolver_clause_store.specs.declared.By.TheVariants.{Solvable a
 ghost use Rattle.resolver_clause_store.specs.declared.ClauseKind.TheVariants.{Constrains as ConstrainsKind, Requires as RequiresKind};
 ghost use Rattle.resolver_encoding.specs.Atoms.{Disjunct};
 ghost use Rattle.resolver_encoding.specs.Core.{ListsOnlyRulesOf, ListsRulesOf};
-ghost use Rattle.resolver_encoding.specs.Groups.{AreGroups};
 ghost use Rattle.resolver_encoding.specs.Listing.{AddsRules, HasInstances, ListsBit, SomeOf, States};
 ghost use Rattle.resolver_clause_store.specs.Statements.{constrains, requires};
 ghost use Rattle.resolver_encoding.specs.Values.{kinds_at};
@@ -76,7 +75,6 @@ fn add_requirement<N: Copy + Eq + Hash + Drop, S: Copy + Eq + Hash + Drop>(
     when: Vec<Vec<S>>,
 ) -> Result<(), Exhausted>
     requires names { IsIdentity N.eq }
-    requires groups { AreGroups sources.now }
     requires instances { HasInstances listing.old }
     ensures added { OnOk result ((u : Universe N S) (disjunct : Disjunct) → candidates.items ≡ candidates_of u requirement →
         map (λ list. list.items) when.items ≡ map (matching u) disjunct.items →
@@ -122,7 +120,6 @@ fn add_constraint<N: Copy + Eq + Hash + Drop, S: Copy + Eq + Hash + Drop>(
     candidate: Option<S>,
 ) -> Result<(), Exhausted>
     requires names { IsIdentity N.eq }
-    requires groups { AreGroups sources.now }
     requires instances { HasInstances listing.old }
     ensures added { OnOk result ((u : Universe N S) → AddsRules (States u sources.now (ConstrainsKind by version_set candidate)) listing.old listing.new) }
     ensures memory { IfErr result (λ e. e ≡ Exhausted.Memory) }
@@ -170,7 +167,6 @@ fn add_stated<D: DependencyProvider>(
     kind: &ClauseKind<D::NameId, D::SolvableId>,
 ) -> Result<(), Interrupted<D::Cancel>>
     requires is_true { IsTrueCache (D.universe provider.now) cache.old }
-    requires groups { AreGroups sources.now }
     requires instances { HasInstances listing.old }
     ensures is_true { IsTrueCache (D.universe provider.now) cache.new }
     ensures added { OnOk result (AddsRules (States (D.universe provider.now) sources.now kind.now) listing.old listing.new) }

@@ -1,12 +1,16 @@
 //! Solvables grouped by the names of their packages.
 
-ghost use Rattle.std.specs.Prelude.{◌≡◌, ◌≢◌, ◌<◌, ℕ, [], ◌∷◌, ◌++◌, All, Contains, IfErr, OnOk, Some, length, slice_get};
+ghost use Rattle.std.specs.Prelude.{◌≡◌, ◌⊎◌, ℕ, [], IfErr, IfOk, OnOk, Some, slice_get};
 ghost use Rattle.resolver_clause_store.specs.Laws.{IsIdentity};
+ghost use Rattle.resolver_clause_store.specs.NumberedLists.{list_of};
+ghost use Rattle.resolver_clause_store.specs.Variables.{Keeps};
+ghost use Rattle.resolver_encoding.specs.Groups.{AddsNamed, IsAt, IsInGroup};
 
 use indexmap::IndexSet;
 use resolver_clause_store::{Exhausted, NumberedLists, append, place_of};
 use std::alloc::Global;
 use std::hash::Hash;
+use std::marker::Model;
 
 /// The solvables that were added under each name, in the order in which they were added.
 #[derive(Drop)]
@@ -15,13 +19,20 @@ pub(crate) struct Groups<N: Copy + Eq + Hash + Drop, S: Copy + Drop> {
     members: NumberedLists<S>,
 }
 
-impl<N: Copy + Eq + Hash + Drop, S: Copy + Drop> Groups<N, S> {
-    ghost use Rattle.resolver_encoding.specs.Groups.{AddsNamed, AreGroups, IsAt, IsInGroup, group_at};
+impl<N: Copy + Eq + Hash + Drop, S: Copy + Drop> Model for Groups<N, S> {
+    ghost use Rattle.resolver_encoding.specs.Groups.{AreSound, Groups};
 
+    ghost Value = { Groups N S };
+
+    ghost view = { λ g. record { names = g.names.keys; members = g.members } };
+
+    ghost invariant = { λ g. AreSound g.names.keys g.members };
+}
+
+impl<N: Copy + Eq + Hash + Drop, S: Copy + Drop> Groups<N, S> {
     /// Returns no groups.
     pub(crate) fn new(alloc: Global) -> Self
-        ensures sound { AreGroups result }
-        ensures none { (n : N) (s : S) → IsInGroup result n s → ⊥ }
+        ensures { (n : N) (s : S) → IsInGroup result n s → ⊥ }
     {
         Groups {
             names: IndexSet::new(alloc),
@@ -32,10 +43,8 @@ impl<N: Copy + Eq + Hash + Drop, S: Copy + Drop> Groups<N, S> {
     /// Returns the solvables of a name.
     pub(crate) fn named(&self, name: N) -> &[S]
         requires { IsIdentity N.eq }
-        ensures each { All (IsInGroup self.now name) result.now }
-        ensures every { AreGroups self.now → (s : S) → IsInGroup self.now name s → Contains result.now s }
-        ensures each_at { (k : ℕ) (s : S) → slice_get result.now k ≡ Some s → IsAt self.now name k s }
-        ensures every_at { AreGroups self.now → (k : ℕ) (s : S) → IsAt self.now name k s → slice_get result.now k ≡ Some s }
+        ensures each { (k : ℕ) (s : S) → slice_get result.now k ≡ Some s → IsAt self.now name k s }
+        ensures every { (k : ℕ) (s : S) → IsAt self.now name k s → slice_get result.now k ≡ Some s }
     {
         match place_of(&self.names, &name) {
             Some(place) => self.members.at(place),
@@ -43,51 +52,34 @@ impl<N: Copy + Eq + Hash + Drop, S: Copy + Drop> Groups<N, S> {
         }
     }
 
-    /// Appends a solvable to the group at a place, if there is such a group.
-    fn put(&mut self, place: usize, solvable: S) -> Result<(), Exhausted>
-        ensures names { self.new.names.keys ≡ self.old.names.keys }
-        ensures count { length self.new.members ≡ length self.old.members }
-        ensures others { (k : ℕ) → k ≢ place → group_at self.new.members k ≡ group_at self.old.members k }
-        ensures here { OnOk result (place < length self.old.members → group_at self.new.members place ≡ group_at self.old.members place ++
-            solvable ∷ []) }
-        ensures memory { IfErr result (λ e. e ≡ Exhausted.Memory) }
-    {
-        if place >= self.members.len() {
-            return Ok(());
-        }
-        self.members.push(place, solvable)?;
-        Ok(())
-    }
-
-    /// Makes the group of a name that has none yet, with one solvable.
-    fn open(&mut self, name: N, solvable: S) -> Result<(), Exhausted>
+    /// Returns the place of a name's group, which is made if there is none.
+    fn place(&mut self, name: N) -> Result<usize, Exhausted>
         requires names { IsIdentity N.eq }
-        requires absent { Contains self.old.names.keys name → ⊥ }
-        ensures added { OnOk result (AreGroups self.old → AddsNamed self.old self.new name solvable) }
+        ensures named { IfOk result (λ place. slice_get self.new.names place ≡ Some name) }
+        ensures keeps { OnOk result (Keeps self.old.names self.new.names) }
+        ensures only { IfOk result (λ place. (k : ℕ) (n : N) → slice_get self.new.names k ≡ Some n →
+            (slice_get self.old.names k ≡ Some n) ⊎ ((k ≡ place) × (list_of self.old.members k ≡ []))) }
+        ensures members { self.new.members ≡ self.old.members }
         ensures memory { IfErr result (λ e. e ≡ Exhausted.Memory) }
     {
-        let place = self.members.len();
-        self.members.grow(place + 1)?;
-        self.members.push(place, solvable)?;
-        append(&mut self.names, name)?;
-        Ok(())
+        match place_of(&self.names, &name) {
+            Some(place) => Ok(place),
+            None => {
+                let place = self.names.len();
+                append(&mut self.names, name)?;
+                Ok(place)
+            }
+        }
     }
 
     /// Appends a solvable to the group of a name.
     pub(crate) fn add(&mut self, name: N, solvable: S) -> Result<(), Exhausted>
         requires { IsIdentity N.eq }
-        ensures added { OnOk result (AreGroups self.old → AddsNamed self.old self.new name solvable) }
+        ensures added { OnOk result (AddsNamed self.old self.new name solvable) }
         ensures memory { IfErr result (λ e. e ≡ Exhausted.Memory) }
     {
-        match place_of(&self.names, &name) {
-            Some(place) => {
-                self.put(place, solvable)?;
-                Ok(())
-            }
-            None => {
-                self.open(name, solvable)?;
-                Ok(())
-            }
-        }
+        let place = self.place(name)?;
+        self.members.add(place, solvable)?;
+        Ok(())
     }
 }

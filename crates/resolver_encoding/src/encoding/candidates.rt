@@ -9,7 +9,7 @@ ghost use Rattle.resolver_clause_store.specs.declared.Origin.TheVariants.{Solvab
 ghost use Rattle.resolver_encoding.specs.Called.{IsSeeing, IsSeeingEach};
 ghost use Rattle.resolver_encoding.specs.Codes.{bit};
 ghost use Rattle.resolver_encoding.specs.Encodings.{Grows, IsFull, IsStepWhile, coding_for};
-ghost use Rattle.resolver_encoding.specs.Groups.{AreGroups, IsAt};
+ghost use Rattle.resolver_encoding.specs.Groups.{IsAt};
 ghost use Rattle.resolver_encoding.specs.Refusals.{IsShortage};
 ghost use Rattle.resolver_encoding.specs.Steps.{CallsOnly, HasBegun};
 ghost use Rattle.resolver_encoding.specs.Turns.{AddsPlainly};
@@ -51,7 +51,7 @@ impl<N: Copy + Eq + Hash + Drop, S: Copy + Eq + Hash + Drop> Encoding<N, S> {
         number: usize,
         solvable: S,
     ) -> Result<(), Exhausted>
-        requires below { AreGroups (notes_in self.old).groups → (k : ℕ) (t : S) → IsAt (notes_in self.old).groups name k t → k < number }
+        requires below { (k : ℕ) (t : S) → IsAt (notes_in self.old).groups name k t → k < number }
         ensures room { KeepsRoom self.old self.new }
         ensures step { OnOk result (IsStepWhile (D.universe provider.now) (coding_for name number solvable) (λ root. ⊤) (notes_in self.old)
             (notes_in self.new)) }

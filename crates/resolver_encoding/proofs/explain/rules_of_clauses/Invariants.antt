@@ -8,5 +8,6 @@ abbrev pub invariant-loop-number : goal.invariant-loop-number
 invariant-loop-number g l = record {
   is_true : IsTrueCache (g.D.Interner.universe l.provider) l.cache;
   instances : HasInstances l.listing;
-  rules : AreRulesOf (SomeOf (kinds_at l.kinds (take l.number-index l.numbers)) (States (g.D.Interner.universe l.provider) l.sources)) l.listing.rules.items;
+  rules : AreRulesOf (SomeOf (kinds_at l.kinds (take l.number-index l.numbers)) (States (g.D.Interner.universe l.provider)
+      (record { names = l.sources-inside.names.keys; members = l.sources-inside.members }))) l.listing.rules.items;
 }

@@ -10,7 +10,7 @@ returns-in_ok-add-in-Implies-clause-noted g c = λ kinds are.
     let it = c.in-Implies in
     let Of : Bool → ClauseKind g.row.N.Denot g.row.S.Denot = λ b. Implies it.candidate it.helper b in
     source_noted kinds c.args.kind.now c.args.sources.now _ it.helper it.candidate (it.is ∙ ap Of c.if-value.true)
-    (c.in_ok-add-in-Implies.ensures.added are.groups) are
+    c.in_ok-add-in-Implies.ensures.added are
 
 pub returns-else-value-clause-noted : goal.returns-else-value-clause-noted
 returns-else-value-clause-noted g c = λ kinds are.

@@ -8,7 +8,7 @@ use Rattle.resolver_encoding.proofs.SourceLemmas.{no_sources, sources_next}
 use Rattle.resolver_encoding.proofs.sources.sources_of.Goals as goal
 
 pub loop-number-init : goal.loop-number-init
-loop-number-init g c = no_sources c.new-sources.result c.new-sources.ensures.sound c.new-sources.ensures.none
+loop-number-init g c = no_sources c.new-sources.result c.new-sources.ensures
 
 pub bounds-kinds-number : goal.bounds-kinds-number
 bounds-kinds-number g c =

@@ -5,8 +5,7 @@ use Rattle.resolver_clause_store.specs.declared.ClauseKind.TheVariants.{Implies}
 use Rattle.resolver_clause_store.specs.declared.Helper.TheVariants.{Bit}
 use Rattle.resolver_clause_store.proofs.SetLemmas.{All-done}
 use Rattle.resolver_encoding.specs.Encodings.{coding_for}
-use Rattle.resolver_encoding.specs.Groups.{AreGroups, IsAt}
-use Rattle.resolver_encoding.specs.declared.groups.Groups.{Groups}
+use Rattle.resolver_encoding.specs.Groups.{Groups, IsAt}
 use Rattle.resolver_encoding.specs.Notes.{notes_in}
 use Rattle.resolver_encoding.proofs.EncodingLemmas.{IsStep-same, IsStep-trans, clause_listed}
 use Rattle.resolver_encoding.proofs.NoteLemmas.{All-grown}
@@ -37,15 +36,14 @@ loop-other-preserved g c =
     let before = c.loop-other.invariant in
     let old = notes_in c.loop-other.self in
     let new = notes_in c.add.new.self in
-    let Sound : Groups g.row.N.Denot g.row.S.Denot → Type 0 = λ gs. AreGroups gs in
     let At : Groups g.row.N.Denot g.row.S.Denot → Type 0 = λ gs. IsAt gs n j t in
     let Placed : List g.row.S.Denot → Type 0 = λ xs. slice_get xs j ≡ Some t in
-    let at = c.named.ensures.each_at j t (subst Placed (c.deref-other-items.ensures.value ∙ c.in_ok-earlier.ensures.items)
+    let at = c.named.ensures.each j t (subst Placed (c.deref-other-items.ensures.value ∙ c.in_ok-earlier.ensures.items)
     (place_of_item list j t (omega arith) c.other-item.is)) in
     let adds = c.in_ok-add.ensures.added u refl in
     let step = IsStep-begun u g.N.PartialEq.eq g.S.PartialEq.eq g.met.D.Interner.names_are_values g.met.D.Interner.solvables_are_values n k s old new i j t adds
     c.in-Some.ensures
-    (λ sound. c.requires.below (subst Sound before.groups sound) j t at) (subst At (sym before.groups) at) in
+    (c.requires.below j t at) (subst At (sym before.groups) at) in
     record {
       room = KeepsRoom-trans _ _ _ before.room c.add.ensures.room;
       step = IsStep-trans u (coding_for n k s) (λ root. ⊤) _ _ _ before.step step;
@@ -64,5 +62,5 @@ returns-clause-begun g c =
     let all = subst Begun (c.deref-other-items.ensures.value ∙ c.in_ok-earlier.ensures.items)
     (All-done (λ t. Contains kinds (Implies t (Bit n index) false)) c.deref-other-items.result.now c.loop-other.other-index (omega arith)
     c.loop-other.invariant.begun) in
-    λ i begins sound k t at. digit_begun kinds n c.named.result.now c.args.number index i k t all c.in-Some.ensures begins
-    (c.named.ensures.every_at sound k t at) (c.requires.below sound k t at)
+    λ i begins k t at. digit_begun kinds n c.named.result.now c.args.number index i k t all c.in-Some.ensures begins
+    (c.named.ensures.every k t at) (c.requires.below k t at)

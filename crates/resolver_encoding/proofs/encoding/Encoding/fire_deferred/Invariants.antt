@@ -1,4 +1,3 @@
-use Rattle.resolver_encoding.specs.Groups.{AreGroups}
 use Rattle.resolver_encoding.specs.Notes.{KeepsTrue, notes_in}
 use Rattle.resolver_encoding.specs.SoFar.{HasFired, IsFiring}
 use Rattle.resolver_encoding.proofs.FiringLemmas.{AreQuiet}
@@ -8,6 +7,6 @@ abbrev pub invariant-loop-place : goal.invariant-loop-place
 invariant-loop-place g l = record {
   room : KeepsTrue (g.D.Interner.universe l.provider) l.fn.self l.self;
   firing : IsFiring (g.D.Interner.universe l.provider) l.chosen.keys (notes_in l.fn.self) (notes_in l.self);
-  quiet : AreGroups (notes_in l.fn.self).deferred_by_name → AreQuiet (g.D.Interner.universe l.provider) l.chosen.keys (notes_in l.self) l.from l.place;
+  quiet : AreQuiet (g.D.Interner.universe l.provider) l.chosen.keys (notes_in l.self) l.from l.place;
   fired : HasFired (notes_in l.fn.self) (notes_in l.self) l.any;
 }

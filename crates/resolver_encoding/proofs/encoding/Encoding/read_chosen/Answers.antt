@@ -53,7 +53,7 @@ returns g c =
           let half = reading.keeps root so.half in
           so_far_on u set root (IsListedFrom u new (length old.kinds)) fired new
           (so_far u set old mid fired reading firing root c.args.from so c.in_ok-read.ensures.here
-          (c.in_ok-fired.ensures.quiet half.encoding.sound_deferred_by_name)
+          c.in_ok-fired.ensures.quiet
           (lawful_solvables u g.S.PartialEq.eq (g.met.D.Interner.lawful_ids c.args.provider.now)
           (g.met.D.Interner.solvables_compare c.args.provider.now) g.met.D.Interner.solvables_are_values)
           (g.met.D.DependencyProvider.lawful_packages c.args.provider.now))
@@ -70,7 +70,7 @@ returns g c =
           let From : ℕ → Type 0 = λ n. IsHintedReading u set n fired new in
           let hinted = subst From c.clause_count-clauses.ensures c.in_ok-hinted.ensures.reading in
           let half = reading.keeps root so.half in
-          let quiet = c.in_ok-fired.ensures.quiet half.encoding.sound_deferred_by_name in
+          let quiet = c.in_ok-fired.ensures.quiet in
           let lawful = lawful_solvables u g.S.PartialEq.eq (g.met.D.Interner.lawful_ids c.args.provider.now)
           (g.met.D.Interner.solvables_compare c.args.provider.now) g.met.D.Interner.solvables_are_values in
           let packages = g.met.D.DependencyProvider.lawful_packages c.args.provider.now in

@@ -6,8 +6,6 @@ use Rattle.resolver_clause_store.specs.declared.Origin.TheVariants.{Solvable}
 use Rattle.resolver_clause_store.specs.Variables.{limit_in, origins_in}
 use Rattle.resolver_encoding.specs.Called.{IsSeeing}
 use Rattle.resolver_encoding.specs.Encodings.{Grows, coding_for, idle}
-use Rattle.resolver_encoding.specs.Groups.{AreGroups}
-use Rattle.resolver_encoding.specs.declared.groups.Groups.{Groups}
 use Rattle.resolver_encoding.specs.Notes.{notes_in}
 use Rattle.resolver_encoding.proofs.EncodingLemmas.{IsAskStep-of, IsAskStep-trans, IsStep-trans}
 use Rattle.resolver_encoding.proofs.NoteLemmas.{IsStep-origins}
@@ -17,7 +15,7 @@ use Rattle.resolver_clause_store.proofs.ListLemmas.{Contains-at as place_in}
 use Rattle.resolver_encoding.proofs.encoding.Encoding.register_new.Goals as goal
 
 pub begin_digit-requires : goal.begin_digit-requires
-begin_digit-requires g c = record { below = λ sound k t at. slice_get_within c.named-number.result.now k t (c.named-number.ensures.every_at sound k t at) }
+begin_digit-requires g c = record { below = λ k t at. slice_get_within c.named-number.result.now k t (c.named-number.ensures.every k t at) }
 
 pub returns : goal.returns
 returns g c =
@@ -32,7 +30,6 @@ returns g c =
           let begun = c.in_ok-begin_digit.ensures in
           let code = c.in_ok-add_code.ensures in
           let grows : Grows old.origins (origins_in c.intern.new.self) = record { keeps = c.intern.ensures.kept; distinct = c.intern.ensures.distinct } in
-          let Sound : Groups g.row.N.Denot g.row.S.Denot → Type 0 = λ gs. AreGroups gs in
           let same_groups = code.groups ∙ begun.groups in
           let step = IsStep-trans u (coding_for n k s) (λ root. ⊤) _ _ _ begun.step code.step in
           IsAskStep-trans u (IsSeeing s) (λ root. ⊤) _ _ _
@@ -44,8 +41,8 @@ returns g c =
           step same_groups step.seen (λ i. record mid { seen = c.in_ok-append.ensures.keys i; groups = c.add.new.self })
           c.in_ok-add.ensures.added
           (place_in mid.origins _ (Solvable s) (step.growth.origins.kept _ (Solvable s) c.in_ok-intern.ensures.here))
-          c.named-number.ensures.each_at c.named-number.ensures.every_at refl code.code
-          (λ i begins sound j t at. code.step.growth.kinds _ (begun.begun i begins sound j t at)));
+          c.named-number.ensures.each c.named-number.ensures.every refl code.code
+          (λ i begins j t at. code.step.growth.kinds _ (begun.begun i begins j t at)));
       asked = c.in_ok-add_code.ensures.step.asked ∙ c.in_ok-begin_digit.ensures.step.asked;
       seen = let Has : List g.row.S.Denot → Type 0 = λ list. Contains list c.args.solvable in
           subst Has (sym c.in_ok-append.ensures.keys) (Contains-push c.add_code.new.self.seen.keys c.args.solvable);

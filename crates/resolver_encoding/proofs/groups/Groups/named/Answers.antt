@@ -1,42 +1,34 @@
-use Rattle.std.proofs.Common.{◌≡◌, ℕ, List, subst, sym, Contains}
+use Rattle.std.proofs.Common.{◌≡◌, ℕ, List, Contains, ap, sym, subst}
 use Rattle.std.specs.Prelude.{Some, slice_get}
-use Rattle.std.proofs.lemmas.List.Elements.{All-contains_itself, All-nil, All-weaker}
-use Rattle.resolver_encoding.specs.Groups.{IsInGroup, group_at}
+use Rattle.resolver_clause_store.specs.NumberedLists.{list_of}
 use Rattle.resolver_clause_store.proofs.ListLemmas.{Contains-at as place_in}
+use Rattle.resolver_encoding.specs.Groups.{Groups, IsAt}
 use Rattle.resolver_encoding.proofs.groups.Groups.named.Goals as goal
 
 pub returns-in-Some : goal.returns-in-Some
 returns-in-Some g c =
     let place = c.in-Some.place in
     let name = c.args.name in
-    let list = c.at.result.now in
-    let members = c.args.self.now.members in
-    let at : slice_get c.args.self.now.names.keys place ≡ Some name = rw c.in-Some.is at c.place_of.ensures.place in
-    let is : list ≡ group_at members place = c.at.ensures in
+    let found = c.at.result.now in
+    let groups = c.self.inside in
+    let at : slice_get groups.names.keys place ≡ Some name = rw c.in-Some.is at c.place_of.ensures.place in
+    let At : ℕ → g.row.S.Denot → List g.row.S.Denot → Type 0 = λ k s xs. slice_get xs k ≡ Some s in
+    let Each : Groups g.row.N.Denot g.row.S.Denot → Type 0 = λ v. (k : ℕ) (s : g.row.S.Denot) → slice_get found k ≡ Some s → IsAt v name k s in
+    let Every : Groups g.row.N.Denot g.row.S.Denot → Type 0 = λ v. (k : ℕ) (s : g.row.S.Denot) → IsAt v name k s → slice_get found k ≡ Some s in
     record {
-      each = All-weaker (Contains list) (IsInGroup c.args.self.now name) (λ s h.
-          let Has : List g.row.S.Denot → Type 0 = λ xs. Contains xs s in
-          record { place = place; named = at; inside = subst Has is h }) list (All-contains_itself list);
-      every = λ sound s h.
-          let Has : List g.row.S.Denot → Type 0 = λ xs. Contains xs s in
-          let In : ℕ → Type 0 = λ k. Contains (group_at members k) s in
-          subst Has (sym is) (subst In (sound.distinct.same h.place place name h.named at) h.inside);
-      each_at = λ k s k_at.
-          let At : List g.row.S.Denot → Type 0 = λ xs. slice_get xs k ≡ Some s in
-          record { place = place; named = at; at = subst At is k_at };
-      every_at = λ sound k s h.
-          let At : List g.row.S.Denot → Type 0 = λ xs. slice_get xs k ≡ Some s in
-          let In : ℕ → Type 0 = λ p. slice_get (group_at members p) k ≡ Some s in
-          subst At (sym is) (subst In (sound.distinct.same h.place place name h.named at) h.at);
+      each = subst Each c.self.view_is (λ k s h. record {
+        place = place;
+        named = at;
+        only = λ other is. c.self.invariant.distinct.same other place name is at;
+        at = subst (At k s) c.at.ensures h;
+      });
+      every = subst Every c.self.view_is (λ k s h.
+          let In : ℕ → Type 0 = λ p. slice_get (list_of groups.members p) k ≡ Some s in
+          subst (At k s) (sym c.at.ensures) (subst In (sym (h.only place at)) h.at));
     }
 
 pub returns-in-None-clause-every : goal.returns-in-None-clause-every
-returns-in-None-clause-every g c = λ sound s h.
-    absurd ((rw c.in-None.is at c.place_of.ensures.absent) (place_in c.args.self.now.names.keys h.place c.args.name h.named))
-
-pub returns-in-None-clause-every_at : goal.returns-in-None-clause-every_at
-returns-in-None-clause-every_at g c = λ sound k s h.
-    absurd ((rw c.in-None.is at c.place_of.ensures.absent) (place_in c.args.self.now.names.keys h.place c.args.name h.named))
-
-pub returns-in-None-clause-each : goal.returns-in-None-clause-each
-returns-in-None-clause-each g c = All-nil (IsInGroup c.args.self.now c.args.name)
+returns-in-None-clause-every g c = λ k s h.
+    let Absent : List g.row.N.Denot → Type 0 = λ names. Contains names c.args.name → ⊥ in
+    absurd (subst Absent (ap (λ v. v.names) c.self.view_is) (rw c.in-None.is at c.place_of.ensures.absent)
+    (place_in c.args.self.now.names h.place c.args.name h.named))
