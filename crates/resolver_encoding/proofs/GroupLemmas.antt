@@ -6,13 +6,13 @@ use Rattle.std.proofs.lemmas.Bool.{cases_eq, cases_lt}
 use Rattle.std.proofs.lemmas.Option.{same_Some, slice_get-get_or, slice_get_within}
 use Rattle.resolver_clause_store.specs.NumberedLists.{list_of}
 use Rattle.resolver_clause_store.specs.Variables.{AreDistinct, Keeps}
-use Rattle.resolver_encoding.specs.Groups.{AddsNamed, Groups, IsAt, IsInGroup}
+use Rattle.resolver_encoding.specs.Groups.{AddsNamed, Groups, IsAt, IsInGroup, IsNewAt}
 use Rattle.resolver_clause_store.proofs.ListLemmas.{Contains-at as place_in, slice_get-last as place_last}
 use Rattle.resolver_clause_store.proofs.PlaceLemmas.{place_cases, place_left, place_of_member}
 
 -- the list of a name at this place got one more solvable
 pub added : {N S : Type 0} (old new : Groups N S) (n : N) (s : S) (place : ℕ) → AreDistinct new.names → slice_get new.names place ≡ Some n →
-    Keeps old.names new.names → ((k : ℕ) (m : N) → slice_get new.names k ≡ Some m → (slice_get old.names k ≡ Some m) ⊎ ((k ≡ place) × (list_of old.members k ≡ []))) →
+    Keeps old.names new.names → IsNewAt old new place →
     list_of new.members place ≡ list_of old.members place ++ s ∷ [] → ((k : ℕ) → k ≢ place → list_of new.members k ≡ list_of old.members k) →
     AddsNamed old new n s
 added {N} {S} old new n s place distinct at keeps new_only here others =

@@ -13,6 +13,11 @@ pub record AreSound {N S : Type 0} (names : List N) (members : List (List S)) : 
   pub distinct : AreDistinct names
   pub unused : (place : ℕ) → length names ≤ place → list_of members place ≡ []
 
+-- a name that is new stands at this place, which has no members yet
+abbrev pub IsNewAt : {N S : Type 0} → Groups N S → Groups N S → ℕ → Type 0
+IsNewAt {N} old new place = (k : ℕ) (n : N) → slice_get new.names k ≡ Some n →
+    (slice_get old.names k ≡ Some n) ⊎ ((k ≡ place) × (list_of old.members k ≡ []))
+
 -- the solvable has this number in the group of the name
 pub record IsAt {N S : Type 0} (g : Groups N S) (n : N) (number : ℕ) (s : S) : Type 0 where
   pub place : ℕ

@@ -1,13 +1,16 @@
 -- Lists of rules, and the rules that each clause adds.
-use Rattle.std.specs.Prelude.{◌≡◌, ◌⊎◌, List, [], None, Some, Contains, map}
+use Rattle.std.specs.Prelude.{◌≡◌, ◌⊎◌, List, [], Option, None, Some, Contains, map}
 use Rattle.resolver_clause_store.specs.Universe.{Universe}
 use Rattle.resolver_clause_store.specs.Candidates.{matching, requirement_candidates}
+use Rattle.resolver_clause_store.specs.declared.By.{By}
 use Rattle.resolver_clause_store.specs.declared.By.TheVariants.{Solvable as BySolvable}
 use Rattle.resolver_clause_store.specs.declared.Helper.{Helper as HelperOf}
 use Rattle.resolver_clause_store.specs.declared.Helper.TheVariants.{Bit, Gate, Constraint, Condition}
 use Rattle.resolver_clause_store.specs.declared.ClauseKind.{ClauseKind}
 use Rattle.resolver_clause_store.specs.declared.ClauseKind.TheVariants.{InstallRoot, Requires, Implies, Constrains, Lock, Excluded}
+use Rattle.resolver_clause_store.specs.declared.Requirement.{Requirement}
 use Rattle.resolver_clause_store.specs.declared.Rule.{Rule}
+use Rattle.resolver_encoding.specs.Atoms.{Disjunct}
 use Rattle.resolver_encoding.specs.Groups.{Groups, IsInGroup}
 use Rattle.resolver_clause_store.specs.Statements.{Statement, requires, constrains, lock, excluded, one_per_package, statement_of}
 use Rattle.resolver_encoding.specs.declared.listing.Listing.{Listing}
@@ -55,3 +58,9 @@ States u sources (Constrains by v (Some s)) st = st ≡ constrains by v s
 States {N} {S} u sources (Constrains by v None) st = (s : S) × IsInGroup sources (Constraint v) s × (st ≡ constrains by v s)
 States u sources (Lock s t) st = st ≡ lock s t
 States u sources (Excluded s reason) st = st ≡ excluded s reason
+
+-- In whatever universe and for whatever disjunct these are the candidates and the lists of the condition, the rules of
+-- the requirement's clause were added.
+abbrev pub AddsRequirement : {N S : Type 0} → Groups (HelperOf N) S → Option (By S) → Requirement → List S → List (List S) → Listing N S → Listing N S → Type 0
+AddsRequirement {N} {S} sources parent r candidates when old new = (u : Universe N S) (disjunct : Disjunct) →
+    candidates ≡ requirement_candidates u r → when ≡ map (matching u) disjunct.items → AddsRules (States u sources (Requires parent disjunct r)) old new

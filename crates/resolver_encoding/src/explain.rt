@@ -2,15 +2,14 @@
 
 ghost use Rattle.std.specs.Prelude.{All, IfErr, IfOk, OnOk, [], length, map, ◌<◌, ◌≡◌};
 ghost use Rattle.resolver_clause_store.specs.Caches.{IsTrueCache};
-ghost use Rattle.resolver_clause_store.specs.Candidates.{matching, requirement_candidates as candidates_of};
+ghost use Rattle.resolver_clause_store.specs.Candidates.{matching};
 ghost use Rattle.resolver_clause_store.specs.Interruptions.{IsInterruption};
 ghost use Rattle.resolver_clause_store.specs.Laws.{IsIdentity};
 ghost use Rattle.resolver_clause_store.specs.Universe.{Universe};
 ghost use Rattle.resolver_clause_store.specs.declared.By.TheVariants.{Solvable as BySolvable};
-ghost use Rattle.resolver_clause_store.specs.declared.ClauseKind.TheVariants.{Constrains as ConstrainsKind, Requires as RequiresKind};
-ghost use Rattle.resolver_encoding.specs.Atoms.{Disjunct};
+ghost use Rattle.resolver_clause_store.specs.declared.ClauseKind.TheVariants.{Constrains as ConstrainsKind};
 ghost use Rattle.resolver_encoding.specs.Core.{ListsOnlyRulesOf, ListsRulesOf};
-ghost use Rattle.resolver_encoding.specs.Listing.{AddsRules, HasInstances, ListsBit, SomeOf, States};
+ghost use Rattle.resolver_encoding.specs.Listing.{AddsRequirement, AddsRules, HasInstances, ListsBit, SomeOf, States};
 ghost use Rattle.resolver_clause_store.specs.Statements.{constrains, requires};
 ghost use Rattle.resolver_encoding.specs.Values.{kinds_at};
 
@@ -76,9 +75,8 @@ fn add_requirement<N: Copy + Eq + Hash + Drop, S: Copy + Eq + Hash + Drop>(
 ) -> Result<(), Exhausted>
     requires names { IsIdentity N.eq }
     requires instances { HasInstances listing.old }
-    ensures added { OnOk result ((u : Universe N S) (disjunct : Disjunct) → candidates.items ≡ candidates_of u requirement →
-        map (λ list. list.items) when.items ≡ map (matching u) disjunct.items →
-        AddsRules (States u sources.now (RequiresKind parent disjunct requirement)) listing.old listing.new) }
+    ensures added { OnOk result (AddsRequirement sources.now parent requirement candidates.items (map (λ list. list.items) when.items)
+        listing.old listing.new) }
     ensures memory { IfErr result (λ e. e ≡ Exhausted.Memory) }
 {
     match parent {

@@ -1,10 +1,9 @@
 //! Solvables grouped by the names of their packages.
 
-ghost use Rattle.std.specs.Prelude.{◌≡◌, ◌⊎◌, ℕ, [], IfErr, IfOk, OnOk, Some, slice_get};
+ghost use Rattle.std.specs.Prelude.{◌≡◌, ℕ, IfErr, IfOk, OnOk, Some, slice_get};
 ghost use Rattle.resolver_clause_store.specs.Laws.{IsIdentity};
-ghost use Rattle.resolver_clause_store.specs.NumberedLists.{list_of};
 ghost use Rattle.resolver_clause_store.specs.Variables.{Keeps};
-ghost use Rattle.resolver_encoding.specs.Groups.{AddsNamed, IsAt, IsInGroup};
+ghost use Rattle.resolver_encoding.specs.Groups.{AddsNamed, IsAt, IsInGroup, IsNewAt};
 
 use indexmap::IndexSet;
 use resolver_clause_store::{Exhausted, NumberedLists, append, place_of};
@@ -57,8 +56,7 @@ impl<N: Copy + Eq + Hash + Drop, S: Copy + Drop> Groups<N, S> {
         requires names { IsIdentity N.eq }
         ensures named { IfOk result (λ place. slice_get self.new.names place ≡ Some name) }
         ensures keeps { OnOk result (Keeps self.old.names self.new.names) }
-        ensures only { IfOk result (λ place. (k : ℕ) (n : N) → slice_get self.new.names k ≡ Some n →
-            (slice_get self.old.names k ≡ Some n) ⊎ ((k ≡ place) × (list_of self.old.members k ≡ []))) }
+        ensures only { IfOk result (IsNewAt self.old self.new) }
         ensures members { self.new.members ≡ self.old.members }
         ensures memory { IfErr result (λ e. e ≡ Exhausted.Memory) }
     {
