@@ -15,6 +15,7 @@ ghost use Rattle.resolver_clause_store.specs.Variables.{AreDistinct};
 ghost use Rattle.resolver_encoding.specs.Refusals.{IsStop};
 ghost use Rattle.resolver_encoding.specs.SoFar.{IsProgress, IsReadSoFar};
 ghost use Rattle.resolver_encoding.specs.Reach.{AreNear};
+ghost use Rattle.resolver_encoding.specs.Values.{requirement_numbers};
 ghost use Rattle.resolver_encoding.specs.declared.progress.Progress.TheVariants.{Read as ReadProgress};
 ghost use Rattle.resolvo.specs.ClauseSearches.{HasDecided, IsConsistent, IsRootTurn, IsStalled, KeepsTurn, OutcomeIs, learnt_count_of, trail_of};
 
@@ -167,7 +168,7 @@ impl<N: Copy + Eq + Hash + Drop, S: Copy + Eq + Hash + Drop> Rounds<N, S> {
         ensures loaded { OnOk result (IsUpToDate self.new) }
         ensures same { IsSearchOf self.old self.new }
         ensures turn { OnOk result (KeepsTurn (search_of self.old) (search_of self.new)) }
-        ensures outcome { IfOk result (OutcomeIs (notes_of self.new).table (notes_of self.new).requirements (search_of self.new)) }
+        ensures outcome { IfOk result (OutcomeIs (notes_of self.new).table (requirement_numbers (notes_of self.new).kinds) (search_of self.new)) }
         ensures limits { KeepsRoundLimits (D.universe provider.now) self.old self.new }
         ensures refusal { IfErr result (IsStop (D.may_cancel provider.now) (IsStuck self.new)) }
     {
