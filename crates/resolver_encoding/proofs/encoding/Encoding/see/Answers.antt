@@ -16,6 +16,6 @@ returns-then-is_among g c =
       seen = rw c.if-is_among.true at c.is_among.ensures;
       asked = refl;
       only = λ t h. inl h;
-      requirements = refl;
+      plain = refl;
       refusal = tt;
     }
