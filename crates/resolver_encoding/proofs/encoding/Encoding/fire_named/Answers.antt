@@ -13,5 +13,5 @@ returns-clause-quiet g c =
     IsQuietUnder-all u c.args.chosen.now.keys (notes_in c.args.self.now) (notes_in c.fire_each.new.self) c.in_ok-any.ensures.firing
     (u.name c.args.solvable) c.in_ok-numbers.numbers.items
     (λ i named. subst (λ xs. Has xs i) (sym c.in_ok-numbers.ensures.items)
-    (contains_in c.named.result.now (u.name c.args.solvable) i c.named.ensures.every (subst (λ n. Named n i) (sym c.solvable_name-name.ensures) named)))
+    (contains_in c.named.result.now _ i c.named.ensures.every (subst (λ n. Named n i) (sym c.solvable_name-name.ensures) named)))
     (rw c.deref.ensures.value at c.in_ok-any.ensures.quiet)
