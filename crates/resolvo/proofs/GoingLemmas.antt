@@ -225,7 +225,7 @@ module _ {N S : Type 0} where
   pub answering : (u : Universe N S) (old new : Rounds N S) → HasLawfulSolvables u → HasLawfulPackages u →
       IsUpToDate old → AreRounds u old → HasFollowed old new → notes_of new ≡ notes_of old → kept_of new.search ≡ length_of (trail_of new.search) →
       ((requirements : List RequirementClause) → numbers_of requirements ≡ requirement_numbers (notes_of old).kinds →
-        IsFinished (notes_of old).table requirements (trail_of old.search)) → IsAnswering u new
+      IsFinished (notes_of old).table requirements (trail_of old.search)) → IsAnswering u new
   answering u old new lawful packages up rounds followed same bookmarked ends =
       let w = clauses_numbered (requirement_numbers (notes_of old).kinds) in
       let finished = ends w.0 w.1 in
