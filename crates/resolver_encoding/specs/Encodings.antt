@@ -30,11 +30,12 @@ use Rattle.resolver_encoding.specs.ReadState.{Deferred, HasClause, IsReadRequire
 use Rattle.resolver_encoding.specs.Truth.{AreCodes, AreDue, IsTrueClause}
 use Rattle.resolver_encoding.specs.Values.{AreEncoded, IsAtom, IsClauseOf}
 
--- The view of an encoding: the origin of each variable; the literals and the kind of each clause; the registered candidates, and the same by package name; the packages that were asked; the
--- version sets of conditions whose helpers have their clauses; the requirements that have a gate; the version sets of
--- constraints whose helpers have their clauses; the solvables that were read; the deferred disjuncts, with `None` in
--- the place of each that was removed; their numbers, by the package names of their version sets; the exempt solvables;
--- and the limits of variables and clauses.
+-- The view of an encoding: the origin of each variable; the literals and the kind of each clause; the registered
+-- candidates, and the same by package name; the packages that were asked; the version sets of conditions whose helpers
+-- have their clauses; the requirements that have a gate; the version sets of constraints whose helpers have their
+-- clauses; the solvables that were read; the deferred disjuncts, with `None` in the place of each that was removed;
+-- their numbers, by the package names of their version sets; the exempt solvables; and the limits of variables and
+-- clauses.
 pub record Notes (N S : Type 0) : Type 0 where
   pub origins : List (Origin N S)
   pub table : List (List Literal)

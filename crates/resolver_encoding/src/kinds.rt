@@ -28,7 +28,7 @@ impl<N: Drop, S: Drop> Model for Kinds<N, S> {
 }
 
 /// Appends a kind and the literals of its clause. An error changes nothing.
-fn push_both<K: Drop>(
+fn push_clause<K: Drop>(
     kinds: &mut Vec<K>,
     clauses: &mut Clauses,
     kind: K,
@@ -80,7 +80,7 @@ impl<N: Drop, S: Drop> Kinds<N, S> {
                     of_root: matches!(parent, Some(By::Root)),
                     is_union,
                 })?;
-                match push_both(&mut self.kinds, clauses, kind, literals) {
+                match push_clause(&mut self.kinds, clauses, kind, literals) {
                     Ok(()) => Ok(()),
                     Err(e) => {
                         self.requirements.pop();
@@ -89,7 +89,7 @@ impl<N: Drop, S: Drop> Kinds<N, S> {
                 }
             }
             _ => {
-                push_both(&mut self.kinds, clauses, kind, literals)?;
+                push_clause(&mut self.kinds, clauses, kind, literals)?;
                 Ok(())
             }
         }
